@@ -1,0 +1,69 @@
+-- The five records of annex A: marks, fields and limits, each stated here and nowhere else. Definitions only.
+use Prim.Native.Nat.{ℕ, _+_}
+use mathlib.Core.Bool.{Bool, true, false, _&&_}
+use mathlib.Core.List.{List, [], _∷_}
+use lib.Dec.{eqb}
+use lib.ListN.{getD}
+use Rattle.records.specs.declared.Kind.{Kind}
+use Rattle.records.specs.declared.Kind.the-variants.{Dvc, Det, Dpd, Dpt, Dvp}
+use Rattle.records.specs.declared.Mark.{Mark}
+use Rattle.records.specs.declared.Mark.the-variants.{Of, Unknown}
+
+-- a field: so many bytes; a text, which is its length byte, at most so much, and that many bytes; or the entry IDs of a
+-- device element, which are a count of two bytes and two bytes for each
+pub data Field : Type 0 where
+  fixed : ℕ → Field
+  text : ℕ → Field
+  entries : Field
+
+-- the three letters that a record begins with
+unfoldable pub mark : Kind → List ℕ
+mark Dvc = 0x44 ∷ 0x56 ∷ 0x43 ∷ []
+mark Det = 0x44 ∷ 0x45 ∷ 0x54 ∷ []
+mark Dpd = 0x44 ∷ 0x50 ∷ 0x44 ∷ []
+mark Dpt = 0x44 ∷ 0x50 ∷ 0x54 ∷ []
+mark Dvp = 0x44 ∷ 0x56 ∷ 0x50 ∷ []
+
+-- the fields after the mark, in order. Device: ID, designator, software version, NAME, serial number, structure label,
+-- localization label, extended label. Device element: ID, type, designator, element number, parent ID, entry IDs. Process
+-- data: ID, DDI, properties, trigger methods, designator, presentation ID. Property: ID, DDI, value, designator,
+-- presentation ID. Value presentation: ID, offset, scale, decimals, unit text
+unfoldable pub layout : Kind → List Field
+layout Dvc = fixed 2 ∷ text 128 ∷ text 128 ∷ fixed 8 ∷ text 128 ∷ fixed 7 ∷ fixed 7 ∷ text 32 ∷ []
+layout Det = fixed 2 ∷ fixed 1 ∷ text 128 ∷ fixed 2 ∷ fixed 2 ∷ entries ∷ []
+layout Dpd = fixed 2 ∷ fixed 2 ∷ fixed 1 ∷ fixed 1 ∷ text 128 ∷ fixed 2 ∷ []
+layout Dpt = fixed 2 ∷ fixed 2 ∷ fixed 4 ∷ text 128 ∷ fixed 2 ∷ []
+layout Dvp = fixed 2 ∷ fixed 4 ∷ fixed 4 ∷ fixed 1 ∷ text 128 ∷ []
+
+-- the number that stands for a kind in a table; document 01 leaves it free
+unfoldable pub kindNumber : Kind → ℕ
+kindNumber Dvc = 1
+kindNumber Det = 2
+kindNumber Dpd = 3
+kindNumber Dpt = 4
+kindNumber Dvp = 5
+
+-- whether two lists hold the same numbers
+abbrev pub same : List ℕ → List ℕ → Bool
+same [] [] = true
+same [] (y ∷ ys) = false
+same (x ∷ xs) [] = false
+same (x ∷ xs) (y ∷ ys) = eqb x y && same xs ys
+
+abbrev pub pickMark : Bool → Mark → Mark → Mark
+pickMark true a b = a
+pickMark false a b = b
+
+-- the kind whose mark the bytes are
+unfoldable pub markOf : List ℕ → Mark
+unfolding mark
+markOf s =
+    pickMark (same s (mark Dvc)) (Of Dvc)
+    (pickMark (same s (mark Det)) (Of Det)
+    (pickMark (same s (mark Dpd)) (Of Dpd)
+    (pickMark (same s (mark Dpt)) (Of Dpt)
+    (pickMark (same s (mark Dvp)) (Of Dvp) Unknown))))
+
+-- the three bytes at a place; past the end stands 0, which is in no mark
+abbrev pub three : List ℕ → ℕ → List ℕ
+three p at = getD p at 0 ∷ getD p (at + 1) 0 ∷ getD p (at + 2) 0 ∷ []

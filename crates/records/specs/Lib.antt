@@ -1,0 +1,4 @@
+-- What the contracts of `records` cite, in the order to read it.
+pub mod Layout
+pub mod Extents
+pub mod Fields

@@ -1,0 +1,89 @@
+// The five records of annex A: their marks, where a record ends, and its fields by value.
+// Every public function takes any bytes and any place.
+mod end;
+
+pub enum Kind {
+    Dvc,
+    Det,
+    Dpd,
+    Dpt,
+    Dvp,
+}
+
+// What three bytes at a record's start are.
+pub enum Mark {
+    Of(Kind),
+    Unknown,
+}
+
+// A record at a place, read from left to right: where it ends, or the first thing wrong with it.
+pub enum Extent {
+    Ends(usize),
+    NoMark,
+    Cut,
+    LengthOver(usize),
+}
+
+ghost use mathlib.Core.Path.{_≡_};
+ghost use mathlib.Core.List.{[], _∷_};
+ghost use Rattle.records.specs.Layout.{markOf, three, kindNumber};
+ghost use Rattle.records.specs.Extents.{extentOf};
+
+// The kind by the three letters of its mark.
+fn mark_of(a: u8, b: u8, c: u8) -> Mark
+    ensures { λ r. ⌜ r ≡ markOf (a ∷ b ∷ c ∷ []) ⌝ }
+{
+    if a != b'D' {
+        return Mark::Unknown;
+    }
+    if b == b'E' {
+        if c == b'T' {
+            return Mark::Of(Kind::Det);
+        }
+        return Mark::Unknown;
+    }
+    if b == b'P' {
+        if c == b'D' {
+            return Mark::Of(Kind::Dpd);
+        }
+        if c == b'T' {
+            return Mark::Of(Kind::Dpt);
+        }
+        return Mark::Unknown;
+    }
+    if b == b'V' {
+        if c == b'C' {
+            return Mark::Of(Kind::Dvc);
+        }
+        if c == b'P' {
+            return Mark::Of(Kind::Dvp);
+        }
+    }
+    Mark::Unknown
+}
+
+pub fn kind_number(k: Kind) -> u16
+    ensures { λ r. ⌜ r ≡ kindNumber k ⌝ }
+{
+    match k {
+        Kind::Dvc => 1,
+        Kind::Det => 2,
+        Kind::Dpd => 3,
+        Kind::Dpt => 4,
+        Kind::Dvp => 5,
+    }
+}
+
+// Where the record that starts at a place ends.
+pub fn extent(p: &[u8], at: usize) -> Extent
+    ensures { λ r. ⌜ r ≡ extentOf (now (p .entry)) at ⌝ }
+{
+    if p.len() < at {
+        return Extent::Cut;
+    }
+    if p.len() - at < 3 {
+        return Extent::Cut;
+    }
+    let m = mark_of(p[at], p[at + 1], p[at + 2]);
+    end::marked(p, m, at + 3)
+}

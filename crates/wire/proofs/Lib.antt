@@ -1,0 +1,4 @@
+-- What belongs to no one function.
+pub mod Width
+pub mod Complement
+pub mod Laid
