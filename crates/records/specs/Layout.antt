@@ -36,7 +36,7 @@ layout Dpt = fixed 2 ∷ fixed 2 ∷ fixed 4 ∷ text 128 ∷ fixed 2 ∷ []
 layout Dvp = fixed 2 ∷ fixed 4 ∷ fixed 4 ∷ fixed 1 ∷ text 128 ∷ []
 
 -- the number that stands for a kind in a table; document 01 leaves it free
-unfoldable pub kindNumber : Kind → ℕ
+abbrev pub kindNumber : Kind → ℕ
 kindNumber Dvc = 1
 kindNumber Det = 2
 kindNumber Dpd = 3

@@ -2,7 +2,6 @@
 use super::Extent;
 use super::Kind;
 use super::Mark;
-
 ghost use mathlib.Core.Path.{_≡_};
 ghost use Rattle.records.specs.Layout.{fixed, text, entries, layout};
 ghost use Rattle.records.specs.Extents.{fieldEnd, next, fieldsEnd, markedEnd};

@@ -1,6 +1,7 @@
 // The five records of annex A: their marks, where a record ends, and its fields by value.
 // Every public function takes any bytes and any place.
 mod end;
+pub mod view;
 
 pub enum Kind {
     Dvc,
@@ -22,6 +23,53 @@ pub enum Extent {
     NoMark,
     Cut,
     LengthOver(usize),
+}
+
+// A part of the pool: from a place up to another.
+pub struct Span {
+    pub from: usize,
+    pub to: usize,
+}
+
+pub struct Device {
+    pub designator: Span,
+    pub version: Span,
+    pub name: u64,
+    pub serial: Span,
+    pub structure: Span,
+    pub localization: Span,
+    pub extended: Span,
+}
+
+pub struct DeviceElement {
+    pub role: u8,
+    pub designator: Span,
+    pub number: u16,
+    pub parent: u16,
+    pub entries: u16,
+}
+
+pub struct ProcessData {
+    pub ddi: u16,
+    pub properties: u8,
+    pub triggers: u8,
+    pub designator: Span,
+    pub presentation: u16,
+}
+
+pub struct Property {
+    pub ddi: u16,
+    pub value: i32,
+    pub designator: Span,
+    pub presentation: u16,
+}
+
+// The scale as its bits: whether it is in range is judged on these.
+pub struct ValuePresentation {
+    pub offset: i32,
+    pub scale: u32,
+    pub decimals: u8,
+    pub unit: Span,
 }
 
 ghost use mathlib.Core.Path.{_≡_};
@@ -75,7 +123,7 @@ pub fn kind_number(k: Kind) -> u16
 }
 
 // Where the record that starts at a place ends.
-pub fn extent(p: &[u8], at: usize) -> Extent
+pub fn record_extent(p: &[u8], at: usize) -> Extent
     ensures { λ r. ⌜ r ≡ extentOf (now (p .entry)) at ⌝ }
 {
     if p.len() < at {

@@ -2,7 +2,7 @@
 ghost use mathlib.Core.Path.{_≡_};
 ghost use Prim.Native.Nat.{_+_, _≤_, _<_, _^_};
 ghost use lib.Dec.{leb};
-ghost use lib.ListN.{length};
+ghost use lib.ListN.{length, getD};
 ghost use lib.Seq.{sets};
 ghost use Rattle.wire.specs.Bytes.{bytesOf, numberAt, signedOf, bitsOf, laid};
 
@@ -32,6 +32,16 @@ fn number_at(s: &[u8], at: usize, w: usize) -> u64
         return number(s, at, s.len() - at);
     }
     number(s, at, w)
+}
+
+// The byte at a place, 0 past the end.
+pub fn read_u8(s: &[u8], at: usize) -> u8
+    ensures { λ r. ⌜ r ≡ getD (now (s .entry)) at 0 ⌝ }
+{
+    if at < s.len() {
+        return s[at];
+    }
+    0
 }
 
 pub fn read_u16(s: &[u8], at: usize) -> u16

@@ -1,0 +1,48 @@
+-- `records::end::next_entries` meets its contract. Assumes nothing.
+use mathlib.Core.Path.{_≡_, sym, ap, _∙_}
+use Rattle.records.specs.Layout.{entries}
+use Rattle.records.specs.Extents.{next}
+use borrow.Author.Needs.{needs}
+use Rattle.records.proofs.end.next_entries.Statement.{statement}
+use Rattle.records.proofs.end.next_entries.Tie as tie
+
+enum-known-e : tie.Need-enum-known-e
+enum-known-e c = search needs
+
+entries-end-requires : tie.Need-entries-end-requires
+entries-end-requires c κs = search needs
+
+enum-told : tie.Need-enum-told
+enum-told c = search needs
+
+enum-told-2 : tie.Need-enum-told-2
+enum-told-2 c = search needs
+
+enum-known-e-2 : tie.Need-enum-known-e-2
+enum-known-e-2 c = search needs
+
+returns : tie.Need-returns
+returns c = c .entries-end .ensures ∙ ap (next entries (c .before .before .before .before .before .args .p .now)) (sym (c .before .before .e .given .1))
+
+returns-2 : tie.Need-returns-2
+returns-2 c = search needs
+
+returns-3 : tie.Need-returns-3
+returns-3 c = search needs
+
+returns-4 : tie.Need-returns-4
+returns-4 c = ap (next entries (c .before .before .before .before .args .p .now)) (sym (c .before .e2 .given .1))
+
+pub next-entries-spec : {M : Type 1} → statement M
+next-entries-spec =
+    tie.close
+    (tie.spec
+    enum-known-e
+    entries-end-requires
+    enum-told
+    enum-told-2
+    enum-known-e-2
+    returns
+    returns-2
+    returns-3
+    returns-4)

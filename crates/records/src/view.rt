@@ -1,0 +1,165 @@
+// The fields of the record that starts at a place, by value. A place is 16 bits, as every record's start is. Of a record
+// that is not whole, bytes past the pool's end read as 0.
+use super::Device;
+use super::DeviceElement;
+use super::Mark;
+use super::ProcessData;
+use super::Property;
+use super::Span;
+use super::ValuePresentation;
+ghost use mathlib.Core.Path.{_≡_};
+ghost use Prim.Native.Nat.{_+_, _≤_, _<_};
+ghost use Rattle.records.specs.Layout.{markOf, three};
+ghost use Rattle.records.specs.Fields.{textAt, idOf, deviceOf, elementOf, entryOf, processDataOf, propertyOf, presentationOf};
+
+pub fn mark(p: &[u8], at: u16) -> Mark
+    ensures { λ r. ⌜ r ≡ markOf (three (now (p .entry)) at) ⌝ }
+{
+    let start = at as usize;
+    super::mark_of(
+        wire::read_u8(p, start),
+        wire::read_u8(p, start + 1),
+        wire::read_u8(p, start + 2),
+    )
+}
+
+// The object ID, in a record of any kind.
+pub fn id(p: &[u8], at: u16) -> u16
+    ensures { λ r. ⌜ r ≡ idOf (now (p .entry)) at ⌝ }
+{
+    wire::read_u16(p, at as usize + 3)
+}
+
+// The text behind the length byte at a place.
+fn text(p: &[u8], at: usize) -> Span
+    requires { ⌜ at < 131072 ⌝ }
+    ensures { λ r. ⌜ (r ≡ textAt (now (p .entry)) at) × (r .to ≤ at + 256) ⌝ }
+{
+    let n = wire::read_u8(p, at);
+    Span {
+        from: at + 1,
+        to: at + 1 + n as usize,
+    }
+}
+
+pub fn device(p: &[u8], at: u16) -> Device
+    ensures { λ r. ⌜ r ≡ deviceOf (now (p .entry)) at ⌝ }
+{
+    let id_at = at as usize + 3;
+    let designator = text(p, id_at + 2);
+    let version = text(p, designator.to);
+    let name_at = version.to;
+    let name = wire::read_u64(p, name_at);
+    let serial = text(p, name_at + 8);
+    let structure_at = serial.to;
+    let localization_at = structure_at + 7;
+    let extended_at = localization_at + 7;
+    let structure = Span {
+        from: structure_at,
+        to: localization_at,
+    };
+    let localization = Span {
+        from: localization_at,
+        to: extended_at,
+    };
+    let extended = text(p, extended_at);
+    Device {
+        designator,
+        version,
+        name,
+        serial,
+        structure,
+        localization,
+        extended,
+    }
+}
+
+pub fn device_element(p: &[u8], at: u16) -> DeviceElement
+    ensures { λ r. ⌜ r ≡ elementOf (now (p .entry)) at ⌝ }
+{
+    let id_at = at as usize + 3;
+    let role_at = id_at + 2;
+    let role = wire::read_u8(p, role_at);
+    let designator = text(p, role_at + 1);
+    let number_at = designator.to;
+    let number = wire::read_u16(p, number_at);
+    let parent_at = number_at + 2;
+    let parent = wire::read_u16(p, parent_at);
+    let entries = wire::read_u16(p, parent_at + 2);
+    DeviceElement {
+        role,
+        designator,
+        number,
+        parent,
+        entries,
+    }
+}
+
+// An entry ID of a device element's list, counted from 0.
+pub fn entry(p: &[u8], at: u16, i: u16) -> u16
+    ensures { λ r. ⌜ r ≡ entryOf (now (p .entry)) at i ⌝ }
+{
+    let id_at = at as usize + 3;
+    let designator = text(p, id_at + 2 + 1);
+    let number_at = designator.to;
+    let count_at = number_at + 2 + 2;
+    wire::read_u16(p, count_at + 2 + 2 * i as usize)
+}
+
+pub fn process_data(p: &[u8], at: u16) -> ProcessData
+    ensures { λ r. ⌜ r ≡ processDataOf (now (p .entry)) at ⌝ }
+{
+    let id_at = at as usize + 3;
+    let ddi_at = id_at + 2;
+    let ddi = wire::read_u16(p, ddi_at);
+    let properties_at = ddi_at + 2;
+    let properties = wire::read_u8(p, properties_at);
+    let triggers_at = properties_at + 1;
+    let triggers = wire::read_u8(p, triggers_at);
+    let designator = text(p, triggers_at + 1);
+    let presentation = wire::read_u16(p, designator.to);
+    ProcessData {
+        ddi,
+        properties,
+        triggers,
+        designator,
+        presentation,
+    }
+}
+
+pub fn property(p: &[u8], at: u16) -> Property
+    ensures { λ r. ⌜ r ≡ propertyOf (now (p .entry)) at ⌝ }
+{
+    let id_at = at as usize + 3;
+    let ddi_at = id_at + 2;
+    let ddi = wire::read_u16(p, ddi_at);
+    let value_at = ddi_at + 2;
+    let value = wire::read_i32(p, value_at);
+    let designator = text(p, value_at + 4);
+    let presentation = wire::read_u16(p, designator.to);
+    Property {
+        ddi,
+        value,
+        designator,
+        presentation,
+    }
+}
+
+pub fn value_presentation(p: &[u8], at: u16) -> ValuePresentation
+    ensures { λ r. ⌜ r ≡ presentationOf (now (p .entry)) at ⌝ }
+{
+    let id_at = at as usize + 3;
+    let offset_at = id_at + 2;
+    let offset = wire::read_i32(p, offset_at);
+    let scale_at = offset_at + 4;
+    let scale = wire::read_u32(p, scale_at);
+    let decimals_at = scale_at + 4;
+    let decimals = wire::read_u8(p, decimals_at);
+    let unit = text(p, decimals_at + 1);
+    ValuePresentation {
+        offset,
+        scale,
+        decimals,
+        unit,
+    }
+}
