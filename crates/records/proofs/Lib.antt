@@ -1,3 +1,4 @@
 -- What belongs to no one function.
 pub mod Ends
+pub mod Range
 pub mod Views

@@ -1,0 +1,8 @@
+-- What belongs to no one function.
+pub mod Reading
+pub mod Fields
+pub mod Runs
+pub mod Marks
+pub mod Records
+pub mod Exact
+pub mod Unique

@@ -1,0 +1,18 @@
+// The independent account of a pool: whole records, and what is no whole record. The functions do nothing: their contracts
+// are the claims, so that the check's report names them.
+ghost use mathlib.Core.List.{List};
+ghost use Prim.Native.Nat.{ℕ, _≤_};
+ghost use lib.ListN.{length};
+ghost use Rattle.division.specs.Claims.{Unique, Shortest, Exactly};
+
+pub fn division_is_unique()
+    ensures { λ _. ⌜ Unique ⌝ }
+{}
+
+pub fn no_record_is_shorter()
+    ensures { λ _. ⌜ Shortest ⌝ }
+{}
+
+pub fn extents_are_exact()
+    ensures { λ _. ⌜ ((p : List ℕ) (at : ℕ) → at ≤ length p → Exactly p at) ⌝ }
+{}

@@ -1,0 +1,122 @@
+-- What a walk's answer says of reading. Assumes nothing.
+use mathlib.Core.Path.{_≡_, refl, sym, ap, _∙_}
+use mathlib.Core.Logic.{⊎-elim}
+use mathlib.Core.Bool.{Bool, true, false}
+use mathlib.Core.List.{List, [], _∷_, map}
+use Prim.Native.Nat.{ℕ, zero, suc, _+_, _*_, _/_, _≤_, _<_}
+use native.Mathlib.Omega.{arith}
+use borrow.Author.Tests.{lt-ltb, le-ltb, eq-eqb, ne-eqb, eqb-false, ltb-false}
+use denote.Enum.Declared.{tagOf}
+use lib.Dec.{eqb, ltb}
+use lib.ListN.{length}
+use lib.Seq.{sets}
+use types.Run.{OneOf}
+use Rattle.pool.specs.Answer.{Answer, answer, answerOf}
+use Rattle.pool.specs.Reading.{Entry, width, flat, Cause, unmarked, cut, over, causeNumber, Scan, records, refused, scanOf, entriesIn, pick, pickTable, counted, readOf, roomOf, tableAfter}
+use Rattle.pool.specs.Walk.{countFrom}
+use Rattle.pool.specs.declared.Outcome.{Outcome}
+use Rattle.pool.specs.declared.Outcome.the-variants.{Records, Empty, TooLong, NoMark, Cut, LengthOver, TooMany, TableShort}
+use Rattle.pool.proofs.Outcome.{the-type}
+
+pub read-empty : (p : List ℕ) (room : ℕ) → length p ≡ 0 → readOf p room ≡ answer 1 0
+unfolding readOf
+read-empty p room h = rw (eq-eqb (length p) 0 h)
+
+pub read-long : (p : List ℕ) (room : ℕ) → 65535 < length p → readOf p room ≡ answer 2 0
+unfolding readOf
+read-long p room h = rw (ne-eqb (length p) 0 (λ (z : length p ≡ 0). omega arith), lt-ltb 65535 (length p) h)
+
+pub read-walk : (p : List ℕ) (room : ℕ) → 0 < length p → length p ≤ 65535 → readOf p room ≡ counted room (scanOf p)
+unfolding readOf
+read-walk p room a b = rw (ne-eqb (length p) 0 (λ (z : length p ≡ 0). omega arith), le-ltb 65535 (length p) b)
+
+-- no refusal's number is 0
+pub cause-number : (c : Cause) → causeNumber c ≡ 0 → ⊥
+cause-number unmarked e = omega arith
+cause-number cut e = omega arith
+cause-number over e = omega arith
+
+-- a count that a walk answers is its records'
+pub walk-count : (n : ℕ) (s : Scan) → answer 0 n ≡ countFrom 0 s → (s ≡ records (entriesIn s)) × (length (entriesIn s) ≡ n)
+walk-count n (records es) e =
+    let z : n ≡ 0 + length es = ap (λ (a : Answer). a .value) e in
+    (refl, omega arith)
+walk-count n (refused c at) e = absurd (cause-number c (sym (ap (λ (a : Answer). a .number) e)))
+
+pub walk-counted : (room n : ℕ) (s : Scan) → answer 0 n ≡ countFrom 0 s → counted room s ≡ pick (ltb 8192 n) (answer 6 0) (pick (ltb room n) (answer 7 n) (answer 0 n))
+walk-counted room n s e =
+    let w = walk-count n s e in
+    ap (counted room) (w .0) ∙ rw (w .1)
+
+-- an outcome that is no count has a refusal's number
+keys-positive : (ks : List ℕ) → OneOf (map suc ks) 0 → ⊥
+keys-positive [] j = j
+keys-positive (k ∷ []) j = omega arith
+keys-positive (k ∷ (l ∷ ks)) j = ⊎-elim (λ (e : 0 ≡ suc k). omega arith) (keys-positive (l ∷ ks)) j
+
+abbrev pub NoCount : Outcome → Type 0
+NoCount w = OneOf (1 ∷ 2 ∷ 3 ∷ 4 ∷ 5 ∷ 6 ∷ 7 ∷ []) (tagOf the-type w)
+
+pub no-count : (w : Outcome) → NoCount w → answerOf w .number ≡ 0 → ⊥
+no-count (Records n) j f = keys-positive (0 ∷ 1 ∷ 2 ∷ 3 ∷ 4 ∷ 5 ∷ 6 ∷ []) j
+no-count Empty j f = omega arith
+no-count TooLong j f = omega arith
+no-count (NoMark at) j f = omega arith
+no-count (Cut at) j f = omega arith
+no-count (LengthOver at) j f = omega arith
+no-count TooMany j f = omega arith
+no-count (TableShort n) j f = omega arith
+
+-- a walk that answers no count is refused as reading is
+pub walk-refused : (room : ℕ) (s : Scan) (w : Outcome) → NoCount w → answerOf w ≡ countFrom 0 s → answerOf w ≡ counted room s
+walk-refused room (refused c at) w k e = e
+walk-refused room (records es) w k e = absurd (no-count w k (ap (λ (a : Answer). a .number) e))
+
+-- a refusal that a test picks was not picked where a count is answered
+picked : (b : Bool) (x y : Answer) (n : ℕ) → (x .number ≡ 0 → ⊥) → answer 0 n ≡ pick b x y → (b ≡ false) × (answer 0 n ≡ y)
+picked true x y n never e = absurd (never (sym (ap (λ (a : Answer). a .number) e)))
+picked false x y n never e = (refl, e)
+
+-- what a pool is that reading counts
+pub record Counted (p : List ℕ) (room n : ℕ) : Type 0 where
+  pub some : 0 < length p
+  pub short : length p ≤ 65535
+  pub scanned : scanOf p ≡ records (entriesIn (scanOf p))
+  pub count : length (entriesIn (scanOf p)) ≡ n
+  pub fits : n ≤ room
+
+pub read-counted : (p : List ℕ) (room n : ℕ) → answer 0 n ≡ readOf p room → Counted p room n
+unfolding readOf
+read-counted p room n e =
+    let first = picked (eqb (length p) 0) (answer 1 0) (pick (ltb 65535 (length p)) (answer 2 0) (counted room (scanOf p))) n (λ (z : 1 ≡ 0). omega arith) e in
+    let second = picked (ltb 65535 (length p)) (answer 2 0) (counted room (scanOf p)) n (λ (z : 2 ≡ 0). omega arith) (first .1) in
+    go (eqb-false (length p) 0 (first .0)) (ltb-false 65535 (length p) (second .0)) (scanOf p) refl (second .1)
+  where
+    go : (length p ≡ 0 → ⊥) → length p ≤ 65535 → (s : Scan) → scanOf p ≡ s → answer 0 n ≡ counted room s → Counted p room n
+    go a b (refused c at) x f = absurd (cause-number c (sym (ap (λ (y : Answer). y .number) f)))
+    go a b (records es) x f =
+        let l = length es in
+        let six = picked (ltb 8192 l) (answer 6 0) (pick (ltb room l) (answer 7 l) (answer 0 l)) n (λ (z : 6 ≡ 0). omega arith) f in
+        let seven = picked (ltb room l) (answer 7 l) (answer 0 l) n (λ (z : 7 ≡ 0). omega arith) (six .1) in
+        let same : n ≡ l = ap (λ (y : Answer). y .value) (seven .1) in
+        let room-left : l ≤ room = ltb-false room l (seven .0) in
+        let found : entriesIn (scanOf p) ≡ es = ap entriesIn x in
+        record {
+          some = lt-of-le-ne a;
+          short = b;
+          scanned = x ∙ ap records (sym found);
+          count = ap length found ∙ sym same;
+          fits = omega arith;
+        }
+      where
+        lt-of-le-ne : (length p ≡ 0 → ⊥) → 0 < length p
+        lt-of-le-ne z = omega arith
+
+-- the table where a pool is read, and where it is not
+pub table-read : (p table : List ℕ) (n : ℕ) → answer 0 n ≡ readOf p (roomOf table) → tableAfter p table ≡ sets table 0 (flat (entriesIn (scanOf p)))
+unfolding tableAfter
+table-read p table n e = rw (eq-eqb (readOf p (roomOf table) .number) 0 (sym (ap (λ (a : Answer). a .number) e)))
+
+pub table-kept : (p table : List ℕ) → (readOf p (roomOf table) .number ≡ 0 → ⊥) → tableAfter p table ≡ table
+unfolding tableAfter
+table-kept p table h = rw (ne-eqb (readOf p (roomOf table) .number) 0 h)

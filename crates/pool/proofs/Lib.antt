@@ -1,0 +1,4 @@
+-- What belongs to no one function.
+pub mod Steps
+pub mod Filling
+pub mod Judged

@@ -1,0 +1,111 @@
+-- The walk over a pool's records, turn by turn. Assumes nothing.
+use mathlib.Core.Path.{_≡_, refl, sym, ap, _∙_}
+use mathlib.Core.List.{List, [], _∷_, _++_}
+use Prim.Native.Nat.{ℕ, zero, suc, _+_, _*_, _≤_, _<_}
+use native.Mathlib.Omega.{arith}
+use borrow.Author.Tests.{lt-ltb, le-ltb}
+use lib.ListN.{length}
+use lib.Seq.{sets}
+use Rattle.records.specs.Extents.{extentOf}
+use Rattle.records.specs.declared.Extent.{Extent}
+use Rattle.records.specs.declared.Extent.the-variants.{Ends, NoMark, Cut, LengthOver}
+use Rattle.records.proofs.Range.{extent-range}
+use Rattle.pool.specs.Answer.{Answer, answer}
+use Rattle.pool.specs.Reading.{Entry, width, numbers, flat, entryAt, Cause, unmarked, cut, over, causeNumber, Scan, records, refused, onto, turn, scanFrom}
+use Rattle.pool.specs.Walk.{countFrom, endOr, endOf}
+
+pub scan-turn : (t : ℕ) (p : List ℕ) (at : ℕ) → at < length p → scanFrom (suc t) p at ≡ turn (scanFrom t p) p at (extentOf p at)
+unfolding scanFrom
+scan-turn t p at h = rw (lt-ltb at (length p) h)
+
+pub scan-end : (t : ℕ) (p : List ℕ) (at : ℕ) → length p ≤ at → scanFrom t p at ≡ records []
+unfolding scanFrom
+scan-end zero p at h = refl
+scan-end (suc t) p at h = rw (le-ltb at (length p) h)
+
+count-onto : (n : ℕ) (e : Entry) (s : Scan) → countFrom n (onto e s) ≡ countFrom (n + 1) s
+count-onto n e (records es) = ap (answer 0) (omega arith)
+count-onto n e (refused k at) = refl
+
+-- what is known of a walk that stands at a place with n records behind it: its answer is the whole walk's
+pub record Standing (p : List ℕ) (whole : Answer) (at n : ℕ) : Type 0 where
+  pub turns : ℕ
+  pub enough : length p ≤ at + turns
+  pub answers : countFrom n (scanFrom turns p at) ≡ whole
+
+module _ (p : List ℕ) (whole : Answer) (at n : ℕ) (h : at < length p) where
+  last-turn : (t : ℕ) → length p ≤ at + t → countFrom n (scanFrom t p at) ≡ whole
+      → (s : ℕ) × (length p ≤ at + suc s) × (countFrom n (turn (scanFrom s p) p at (extentOf p at)) ≡ whole)
+  last-turn zero l e = absurd (omega arith)
+  last-turn (suc t) l e = (t, l, ap (countFrom n) (sym (scan-turn t p at h)) ∙ e)
+
+  pub advance : (e : ℕ) → extentOf p at ≡ Ends e → Standing p whole at n → Standing p whole e (n + 1)
+  advance e x st =
+      let s = last-turn (st .turns) (st .enough) (st .answers) in
+      let r = extent-range p at e x in
+      record {
+        turns = s .0;
+        enough = omega (arith, s .1);
+        answers = sym (count-onto n (entryAt p at e) (scanFrom (s .0) p e)) ∙ (rw x at (s .2));
+      }
+
+  pub stopped : (x : Extent) (k : Cause) (q : ℕ) → extentOf p at ≡ x → ((rest : ℕ → Scan) → turn rest p at x ≡ refused k q) → Standing p whole at n → answer (causeNumber k) q ≡ whole
+  stopped x k q e t st =
+      let s = last-turn (st .turns) (st .enough) (st .answers) in
+      let f : turn (scanFrom (s .0) p) p at (extentOf p at) ≡ refused k q = ap (turn (scanFrom (s .0) p) p at) e ∙ t (scanFrom (s .0) p) in
+      sym (ap (countFrom n) f) ∙ s .2
+
+pub finished : (p : List ℕ) (whole : Answer) (at n : ℕ) → length p ≤ at → Standing p whole at n → answer 0 n ≡ whole
+finished p whole at n h st =
+    let z : n ≡ n + 0 = omega arith in
+    ap (answer 0) z ∙ sym (ap (countFrom n) (scan-end (st .turns) p at h)) ∙ st .answers
+
+-- a walk that is known to read all that is left
+pub record Remaining (p : List ℕ) (at : ℕ) (rs : List Entry) : Type 0 where
+  pub turns : ℕ
+  pub enough : length p ≤ at + turns
+  pub reads : scanFrom turns p at ≡ records rs
+
+-- its next record, and what is left behind it
+pub record Next (p : List ℕ) (at : ℕ) (rs : List Entry) : Type 0 where
+  pub left : List Entry
+  pub first : rs ≡ entryAt p at (endOf p at) ∷ left
+  pub later : at < endOf p at
+  pub within : endOf p at ≤ length p
+  pub rest : Remaining p (endOf p at) left
+
+pub next-of : (p : List ℕ) (at : ℕ) (rs : List Entry) → at < length p → Remaining p at rs → Next p at rs
+next-of p at rs h m = by-turns (m .turns) (m .enough) (m .reads)
+  where
+    by-scan : (t e : ℕ) → length p ≤ at + suc t → extentOf p at ≡ Ends e → (s : Scan) → scanFrom t p e ≡ s → onto (entryAt p at e) s ≡ records rs → Next p at rs
+    by-scan t e l x (records es) y g =
+        let end : endOf p at ≡ e = ap (endOr (length p)) x in
+        let r = extent-range p at e x in
+        record {
+          left = es;
+          first = rw end cc;
+          later = rw end (omega arith);
+          within = rw end (r .1);
+          rest = rw end (record { turns = t; enough = omega arith; reads = y });
+        }
+    by-scan t e l x (refused k q) y g = let z : _≡_ {A = ℕ} 0 1 = cc in absurd (omega arith)
+
+    refusal : (k : Cause) (q : ℕ) → refused k q ≡ records rs → ⊥
+    refusal k q g = let z : _≡_ {A = ℕ} 0 1 = cc in omega arith
+
+    by-extent : (t : ℕ) → length p ≤ at + suc t → (x : Extent) → extentOf p at ≡ x → turn (scanFrom t p) p at x ≡ records rs → Next p at rs
+    by-extent t l (Ends e) q g = by-scan t e l q (scanFrom t p e) refl g
+    by-extent t l NoMark q g = absurd (refusal unmarked at g)
+    by-extent t l Cut q g = absurd (refusal cut at g)
+    by-extent t l (LengthOver o) q g = absurd (refusal over o g)
+
+    by-turns : (t : ℕ) → length p ≤ at + t → scanFrom t p at ≡ records rs → Next p at rs
+    by-turns zero l e = absurd (omega arith)
+    by-turns (suc t) l e = by-extent t l (extentOf p at) refl (sym (scan-turn t p at h) ∙ e)
+
+-- an entry and those behind it, laid over a table
+pub sets-entry : (table : List ℕ) (n : ℕ) (e : Entry) (es : List Entry)
+    → sets table (n * width) (flat (e ∷ es)) ≡ sets (sets table (n * width) (numbers e)) ((n + 1) * width) (flat es)
+sets-entry table n e es =
+    let z : suc (suc (suc (suc (n * width)))) ≡ (n + 1) * width = omega arith in
+    ap (λ (i : ℕ). sets (sets table (n * width) (numbers e)) i (flat es)) z

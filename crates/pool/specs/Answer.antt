@@ -1,0 +1,22 @@
+-- What reading answers, in the numbers of document 01. Definitions only.
+use Prim.Native.Nat.{ℕ}
+use Rattle.pool.specs.declared.Outcome.{Outcome}
+use Rattle.pool.specs.declared.Outcome.the-variants.{Records, Empty, TooLong, NoMark, Cut, LengthOver, TooMany, TableShort}
+
+-- number 0 and the count of records, or a refusal's number and its place
+pub record Answer : Type 0 where
+  pub number : ℕ
+  pub value : ℕ
+
+abbrev pub answer : ℕ → ℕ → Answer
+answer n v = record { number = n; value = v }
+
+abbrev pub answerOf : Outcome → Answer
+answerOf (Records count) = answer 0 count
+answerOf Empty = answer 1 0
+answerOf TooLong = answer 2 0
+answerOf (NoMark at) = answer 3 at
+answerOf (Cut at) = answer 4 at
+answerOf (LengthOver at) = answer 5 at
+answerOf TooMany = answer 6 0
+answerOf (TableShort needed) = answer 7 needed

@@ -1,0 +1,109 @@
+-- Reading a pool: document 01, "Reading a pool". Definitions only.
+use Prim.Native.Nat.{ℕ, zero, suc, _+_, _-_, _/_}
+use mathlib.Core.Bool.{Bool, true, false}
+use mathlib.Core.List.{List, [], _∷_, _++_}
+use lib.Dec.{eqb, ltb}
+use lib.ListN.{length}
+use lib.Seq.{sets}
+use Rattle.records.specs.Layout.{kindNumber, markOf, three}
+use Rattle.records.specs.Extents.{extentOf}
+use Rattle.records.specs.Fields.{idOf}
+use Rattle.records.specs.declared.Mark.{Mark}
+use Rattle.records.specs.declared.Mark.the-variants.{Of, Unknown}
+use Rattle.records.specs.declared.Extent.{Extent}
+use Rattle.records.specs.declared.Extent.the-variants.{Ends, NoMark, Cut, LengthOver}
+use Rattle.pool.specs.Answer.{Answer, answer}
+
+-- an entry of the working table: a record's start, length, kind and ID
+pub record Entry : Type 0 where
+  pub start : ℕ
+  pub size : ℕ
+  pub kind : ℕ
+  pub id : ℕ
+
+-- the numbers that an entry is written as, and how many they are
+abbrev pub width : ℕ
+width = 4
+
+abbrev pub numbers : Entry → List ℕ
+numbers e = e .start ∷ e .size ∷ e .kind ∷ e .id ∷ []
+
+abbrev pub flat : List Entry → List ℕ
+flat [] = []
+flat (e ∷ es) = numbers e ++ flat es
+
+abbrev pub markNumber : Mark → ℕ
+markNumber (Of k) = kindNumber k
+markNumber Unknown = 0
+
+-- the entry of the record from a place up to another
+abbrev pub entryAt : List ℕ → ℕ → ℕ → Entry
+entryAt p at end = record { start = at; size = end - at; kind = markNumber (markOf (three p at)); id = idOf p at }
+
+-- what is wrong with a record, and its refusal's number
+pub data Cause : Type 0 where
+  unmarked : Cause
+  cut : Cause
+  over : Cause
+
+abbrev pub causeNumber : Cause → ℕ
+causeNumber unmarked = 3
+causeNumber cut = 4
+causeNumber over = 5
+
+-- a walk over the records: all of them, or the cause and place of the earliest bad one
+pub data Scan : Type 0 where
+  records : List Entry → Scan
+  refused : Cause → ℕ → Scan
+
+abbrev pub onto : Entry → Scan → Scan
+onto e (records es) = records (e ∷ es)
+onto e (refused c at) = refused c at
+
+-- 3 and 4 are placed at the record's start, 5 at the length byte
+abbrev pub turn : (ℕ → Scan) → List ℕ → ℕ → Extent → Scan
+turn rest p at (Ends end) = onto (entryAt p at end) (rest end)
+turn rest p at NoMark = refused unmarked at
+turn rest p at Cut = refused cut at
+turn rest p at (LengthOver place) = refused over place
+
+abbrev pub more : Bool → Scan → Scan
+more true s = s
+more false s = records []
+
+-- the records from a place on. A record has at least its mark, so as many turns as the pool has bytes are enough
+unfoldable pub scanFrom : ℕ → List ℕ → ℕ → Scan
+scanFrom zero p at = records []
+scanFrom (suc turns) p at = more (ltb at (length p)) (turn (scanFrom turns p) p at (extentOf p at))
+
+unfoldable pub scanOf : List ℕ → Scan
+scanOf p = scanFrom (length p) p 0
+
+-- the records of a pool, none where it is refused
+abbrev pub entriesIn : Scan → List Entry
+entriesIn (records es) = es
+entriesIn (refused c at) = []
+
+abbrev pub pick : Bool → Answer → Answer → Answer
+pick true a b = a
+pick false a b = b
+
+-- 6 and 7 follow a full reading
+abbrev pub counted : ℕ → Scan → Answer
+counted room (refused c at) = answer (causeNumber c) at
+counted room (records es) = pick (ltb 8192 (length es)) (answer 6 0) (pick (ltb room (length es)) (answer 7 (length es)) (answer 0 (length es)))
+
+-- 1 and 2 come first; room is the number of entries that the table has
+unfoldable pub readOf : List ℕ → ℕ → Answer
+readOf p room = pick (eqb (length p) 0) (answer 1 0) (pick (ltb 65535 (length p)) (answer 2 0) (counted room (scanOf p)))
+
+abbrev pub roomOf : List ℕ → ℕ
+roomOf table = length table / width
+
+abbrev pub pickTable : Bool → List ℕ → List ℕ → List ℕ
+pickTable true a b = a
+pickTable false a b = b
+
+-- the table after reading: the entries from its start where the pool is read, later numbers as they were; else unchanged
+unfoldable pub tableAfter : List ℕ → List ℕ → List ℕ
+tableAfter p table = pickTable (eqb (readOf p (roomOf table) .number) 0) (sets table 0 (flat (entriesIn (scanOf p)))) table

@@ -1,0 +1,151 @@
+// Reading a pool: whether it divides into records, and the working table. Every public function takes any bytes and any table.
+use records::Extent;
+use records::Mark;
+ghost use mathlib.Core.Path.{_≡_};
+ghost use Prim.Native.Nat.{_+_, _*_, _≤_, _<_};
+ghost use lib.ListN.{length};
+ghost use lib.Seq.{sets};
+ghost use Rattle.records.specs.declared.Mark.{Mark};
+ghost use Rattle.pool.specs.Answer.{answerOf};
+ghost use Rattle.pool.specs.Reading.{width, numbers, flat, markNumber, entryAt, records, scanOf, entriesIn, readOf, roomOf, tableAfter};
+ghost use Rattle.pool.specs.Walk.{countFrom, endOf};
+
+// What reading answers: the count of records, or why the pool is refused and where.
+pub enum Outcome {
+    Records(usize),
+    Empty,
+    TooLong,
+    NoMark(usize),
+    Cut(usize),
+    LengthOver(usize),
+    TooMany,
+    TableShort(usize),
+}
+
+// The numbers of an entry in a table of numbers: start, length, kind, ID.
+pub const WIDTH: usize = 4;
+
+// Walks over the records: their count, or the earliest bad one.
+fn scan(p: &[u8]) -> Outcome
+    ensures { λ r. ⌜ answerOf r ≡ countFrom 0 (scanOf (now (p .entry))) ⌝ }
+{
+    let mut at: usize = 0;
+    let mut n: usize = 0;
+    while at < p.len() {
+        let extent = records::record_extent(p, at);
+        match extent {
+            Extent::Ends(end) => {
+                at = end;
+                n += 1;
+            }
+            Extent::NoMark => {
+                return Outcome::NoMark(at);
+            }
+            Extent::Cut => {
+                return Outcome::Cut(at);
+            }
+            Extent::LengthOver(place) => {
+                return Outcome::LengthOver(place);
+            }
+        }
+    }
+    Outcome::Records(n)
+}
+
+// Whether a pool is read, given how many entries a table has.
+pub fn judge(p: &[u8], room: usize) -> Outcome
+    ensures { λ r. ⌜ answerOf r ≡ readOf (now (p .entry)) room ⌝ }
+{
+    if p.len() == 0 {
+        return Outcome::Empty;
+    }
+    if 65535 < p.len() {
+        return Outcome::TooLong;
+    }
+    let walked = scan(p);
+    match walked {
+        Outcome::Records(count) => {
+            if 8192 < count {
+                return Outcome::TooMany;
+            }
+            if room < count {
+                return Outcome::TableShort(count);
+            }
+            walked
+        }
+        _ => walked,
+    }
+}
+
+fn mark_number(m: Mark) -> u16
+    ensures { λ r. ⌜ r ≡ markNumber m ⌝ }
+{
+    match m {
+        Mark::Of(k) => records::kind_number(k),
+        Mark::Unknown => 0,
+    }
+}
+
+// The end of the record at a place, or of the pool where there is none.
+fn end_of(p: &[u8], at: usize) -> usize
+    ensures { λ r. ⌜ r ≡ endOf (now (p .entry)) at ⌝ }
+{
+    let extent = records::record_extent(p, at);
+    match extent {
+        Extent::Ends(end) => end,
+        Extent::NoMark => p.len(),
+        Extent::Cut => p.len(),
+        Extent::LengthOver(_) => p.len(),
+    }
+}
+
+// Writes entry n.
+fn put_entry(table: &mut [u16], n: usize, start: u16, size: u16, kind: u16, id: u16)
+    requires { ⌜ n * width + width ≤ length (now table) ⌝ }
+    ensures { λ _. ⌜ now (table .exit) ≡ sets (now (table .entry)) (n * width) (numbers (record { start = start; size = size; kind = kind; id = id })) ⌝ }
+{
+    let i = n * WIDTH;
+    table[i] = start;
+    table[i + 1] = size;
+    table[i + 2] = kind;
+    table[i + 3] = id;
+}
+
+// Writes entry n, of the record from a place up to another.
+fn put_record(p: &[u8], table: &mut [u16], n: usize, at: usize, end: usize)
+    requires { ⌜ (n * width + width ≤ length (now table)) × (at ≤ end) × (end < 65536) ⌝ }
+    ensures { λ _. ⌜ now (table .exit) ≡ sets (now (table .entry)) (n * width) (numbers (entryAt (now (p .entry)) at end)) ⌝ }
+{
+    let start = at as u16;
+    let size = (end - at) as u16;
+    let kind = mark_number(records::view::mark(p, start));
+    let id = records::view::id(p, start);
+    put_entry(table, n, start, size, kind, id);
+}
+
+// Fills the table from a pool that has been judged.
+fn fill(p: &[u8], table: &mut [u16])
+    requires { ⌜ (length (now p) < 65536) × (scanOf (now p) ≡ records (entriesIn (scanOf (now p)))) × (length (entriesIn (scanOf (now p))) * width ≤ length (now table)) ⌝ }
+    ensures { λ _. ⌜ now (table .exit) ≡ sets (now (table .entry)) 0 (flat (entriesIn (scanOf (now (p .entry))))) ⌝ }
+{
+    let mut at: usize = 0;
+    let mut n: usize = 0;
+    while at < p.len() {
+        let end = end_of(p, at);
+        put_record(p, table, n, at, end);
+        at = end;
+        n += 1;
+    }
+}
+
+// Reads a pool: judges it, and fills the table only where it is read.
+pub fn read(p: &[u8], table: &mut [u16]) -> Outcome
+    ensures { λ r. ⌜ (answerOf r ≡ readOf (now (p .entry)) (roomOf (now (table .entry)))) × (now (table .exit) ≡ tableAfter (now (p .entry)) (now (table .entry))) ⌝ }
+{
+    let outcome = judge(p, table.len() / WIDTH);
+    if let Outcome::Records(_) = outcome {
+        fill(p, table);
+        return outcome;
+    }
+    outcome
+}
