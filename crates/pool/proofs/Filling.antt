@@ -6,15 +6,20 @@ use native.Mathlib.Omega.{arith}
 use lib.ListN.{length}
 use lib.Seq.{sets, length-sets}
 use Rattle.records.specs.Layout.{markOf, three}
-use Rattle.records.specs.Fields.{idOf}
+use Rattle.records.specs.Fields.{behindMark, idOf}
+use Rattle.records.specs.declared.Mark.{Mark}
 use Rattle.pool.specs.Reading.{Entry, width, numbers, flat, markNumber, entryAt, records, scanFrom, scanOf, entriesIn}
 use Rattle.pool.specs.Walk.{endOf}
 use Rattle.pool.proofs.Steps.{Remaining, Next, next-of, sets-entry, scan-end}
 
+-- the end that a record's mark and fields give
+pub end-of-mark : (p : List ℕ) (at e : ℕ) (m : Mark) → m ≡ markOf (three p at) → e ≡ behindMark m p at → e ≡ endOf p at
+end-of-mark p at e m h g = g ∙ ap (λ (x : Mark). behindMark x p at) h
+
 -- an entry put together from a record's parts
-pub entry-parts : (table p : List ℕ) (i at end k d : ℕ) → k ≡ markNumber (markOf (three p at)) → d ≡ idOf p at
-    → sets table i (numbers (record { start = at; size = end - at; kind = k; id = d })) ≡ sets table i (numbers (entryAt p at end))
-entry-parts table p i at end k d hk hd = rw (hk, hd)
+pub entry-parts : (table p : List ℕ) (i at e k d : ℕ) → e ≡ endOf p at → k ≡ markNumber (markOf (three p at)) → d ≡ idOf p at
+    → sets table i (numbers (record { start = at; size = e - at; kind = k; id = d })) ≡ sets table i (numbers (entryAt p at (endOf p at)))
+entry-parts table p i at e k d he hk hd = rw (he, hk, hd)
 
 -- a table filled up to entry n, where the walk stands at a place
 pub record Filling (p table₀ table : List ℕ) (at n : ℕ) : Type 0 where
@@ -37,22 +42,21 @@ fill-start p table e h =
       whole = refl;
     }
 
-module _ (p table₀ table : List ℕ) (at n e : ℕ) (h : at < length p) (q : e ≡ endOf p at) (f : Filling p table₀ table at n) where
+module _ (p table₀ table : List ℕ) (at n : ℕ) (h : at < length p) (f : Filling p table₀ table at n) where
   next : Next p at (f .left)
   next = next-of p at (f .left) h (f .remaining)
 
-  pub fill-room : (n * width + width ≤ length table) × (at < e) × (e ≤ length p)
+  pub fill-room : (n * width + width ≤ length table) × (at < endOf p at) × (endOf p at ≤ length p)
   fill-room =
       let x = next in
       let l : length (f .left) ≡ length (entryAt p at (endOf p at) ∷ x .left) = ap length (x .first) in
-      (omega (arith, f .room), omega (arith, x .later), omega (arith, x .within))
+      (omega (arith, f .room), x .later, x .within)
 
-  pub fill-more : (now : List ℕ) → now ≡ sets table (n * width) (numbers (entryAt p at e)) → Filling p table₀ now e (n + 1)
-  fill-more now g =
+  pub fill-more : (e : ℕ) (now : List ℕ) → e ≡ endOf p at → now ≡ sets table (n * width) (numbers (entryAt p at (endOf p at))) → Filling p table₀ now e (n + 1)
+  fill-more e now q g =
       let x = next in
       let l : length (f .left) ≡ length (entryAt p at (endOf p at) ∷ x .left) = ap length (x .first) in
-      let same : length now ≡ length table = ap length g ∙ length-sets table (n * width) (numbers (entryAt p at e)) in
-      let laid : now ≡ sets table (n * width) (numbers (entryAt p at (endOf p at))) = g ∙ ap (λ (z : ℕ). sets table (n * width) (numbers (entryAt p at z))) q in
+      let same : length now ≡ length table = ap length g ∙ length-sets table (n * width) (numbers (entryAt p at (endOf p at))) in
       record {
         within = omega (arith, x .within);
         long = same ∙ f .long;
@@ -60,7 +64,7 @@ module _ (p table₀ table : List ℕ) (at n e : ℕ) (h : at < length p) (q : e
         remaining = subst (λ (z : ℕ). Remaining p z (x .left)) (sym q) (x .rest);
         room = omega (arith, f .room);
         whole =
-            ap (λ (t : List ℕ). sets t ((n + 1) * width) (flat (x .left))) laid
+            ap (λ (t : List ℕ). sets t ((n + 1) * width) (flat (x .left))) g
             ∙ sym (sets-entry table n (entryAt p at (endOf p at)) (x .left))
             ∙ ap (λ (es : List Entry). sets table (n * width) (flat es)) (sym (x .first))
             ∙ f .whole;

@@ -9,10 +9,10 @@ use lib.Seq.{sets}
 use Rattle.records.specs.Extents.{extentOf}
 use Rattle.records.specs.declared.Extent.{Extent}
 use Rattle.records.specs.declared.Extent.the-variants.{Ends, NoMark, Cut, LengthOver}
-use Rattle.records.proofs.Range.{extent-range}
+use Rattle.records.proofs.Range.{extent-ends}
 use Rattle.pool.specs.Answer.{Answer, answer}
 use Rattle.pool.specs.Reading.{Entry, width, numbers, flat, entryAt, Cause, unmarked, cut, over, causeNumber, Scan, records, refused, onto, turn, scanFrom}
-use Rattle.pool.specs.Walk.{countFrom, endOr, endOf}
+use Rattle.pool.specs.Walk.{countFrom, endOf}
 
 pub scan-turn : (t : ℕ) (p : List ℕ) (at : ℕ) → at < length p → scanFrom (suc t) p at ≡ turn (scanFrom t p) p at (extentOf p at)
 unfolding scanFrom
@@ -42,7 +42,7 @@ module _ (p : List ℕ) (whole : Answer) (at n : ℕ) (h : at < length p) where
   pub advance : (e : ℕ) → extentOf p at ≡ Ends e → Standing p whole at n → Standing p whole e (n + 1)
   advance e x st =
       let s = last-turn (st .turns) (st .enough) (st .answers) in
-      let r = extent-range p at e x in
+      let r = extent-ends p at e x in
       record {
         turns = s .0;
         enough = omega (arith, s .1);
@@ -79,8 +79,8 @@ next-of p at rs h m = by-turns (m .turns) (m .enough) (m .reads)
   where
     by-scan : (t e : ℕ) → length p ≤ at + suc t → extentOf p at ≡ Ends e → (s : Scan) → scanFrom t p e ≡ s → onto (entryAt p at e) s ≡ records rs → Next p at rs
     by-scan t e l x (records es) y g =
-        let end : endOf p at ≡ e = ap (endOr (length p)) x in
-        let r = extent-range p at e x in
+        let r = extent-ends p at e x in
+        let end : endOf p at ≡ e = sym (r .2) in
         record {
           left = es;
           first = rw end cc;

@@ -86,19 +86,6 @@ fn mark_number(m: Mark) -> u16
     }
 }
 
-// The end of the record at a place, or of the pool where there is none.
-fn end_of(p: &[u8], at: usize) -> usize
-    ensures { λ r. ⌜ r ≡ endOf (now (p .entry)) at ⌝ }
-{
-    let extent = records::record_extent(p, at);
-    match extent {
-        Extent::Ends(end) => end,
-        Extent::NoMark => p.len(),
-        Extent::Cut => p.len(),
-        Extent::LengthOver(_) => p.len(),
-    }
-}
-
 // Writes entry n.
 fn put_entry(table: &mut [u16], n: usize, start: u16, size: u16, kind: u16, id: u16)
     requires { ⌜ n * width + width ≤ length (now table) ⌝ }
@@ -111,16 +98,17 @@ fn put_entry(table: &mut [u16], n: usize, start: u16, size: u16, kind: u16, id: 
     table[i + 3] = id;
 }
 
-// Writes entry n, of the record from a place up to another.
-fn put_record(p: &[u8], table: &mut [u16], n: usize, at: usize, end: usize)
-    requires { ⌜ (n * width + width ≤ length (now table)) × (at ≤ end) × (end < 65536) ⌝ }
-    ensures { λ _. ⌜ now (table .exit) ≡ sets (now (table .entry)) (n * width) (numbers (entryAt (now (p .entry)) at end)) ⌝ }
+// Writes entry n, of the record at a place, and gives the place behind it.
+fn put_record(p: &[u8], table: &mut [u16], n: usize, at: usize) -> usize
+    requires { ⌜ (n * width + width ≤ length (now table)) × (at ≤ endOf (now p) at) × (endOf (now p) at < 65536) ⌝ }
+    ensures { λ r. ⌜ (r ≡ endOf (now (p .entry)) at) × (now (table .exit) ≡ sets (now (table .entry)) (n * width) (numbers (entryAt (now (p .entry)) at (endOf (now (p .entry)) at)))) ⌝ }
 {
     let start = at as u16;
-    let size = (end - at) as u16;
-    let kind = mark_number(records::view::mark(p, start));
+    let mark = records::view::mark(p, start);
+    let end = records::view::end(p, mark, start);
     let id = records::view::id(p, start);
-    put_entry(table, n, start, size, kind, id);
+    put_entry(table, n, start, (end - at) as u16, mark_number(mark), id);
+    end
 }
 
 // Fills the table from a pool that has been judged.
@@ -131,9 +119,7 @@ fn fill(p: &[u8], table: &mut [u16])
     let mut at: usize = 0;
     let mut n: usize = 0;
     while at < p.len() {
-        let end = end_of(p, at);
-        put_record(p, table, n, at, end);
-        at = end;
+        at = put_record(p, table, n, at);
         n += 1;
     }
 }
@@ -148,4 +134,36 @@ pub fn read(p: &[u8], table: &mut [u16]) -> Outcome
         return outcome;
     }
     outcome
+}
+
+// Document 01's number for what reading answers, 0 where the pool is read.
+pub fn number_of(outcome: Outcome) -> u32
+    ensures { λ r. ⌜ r ≡ answerOf outcome .number ⌝ }
+{
+    match outcome {
+        Outcome::Records(_) => 0,
+        Outcome::Empty => 1,
+        Outcome::TooLong => 2,
+        Outcome::NoMark(_) => 3,
+        Outcome::Cut(_) => 4,
+        Outcome::LengthOver(_) => 5,
+        Outcome::TooMany => 6,
+        Outcome::TableShort(_) => 7,
+    }
+}
+
+// The count of records, or the refusal's place.
+pub fn value_of(outcome: Outcome) -> usize
+    ensures { λ r. ⌜ r ≡ answerOf outcome .value ⌝ }
+{
+    match outcome {
+        Outcome::Records(count) => count,
+        Outcome::Empty => 0,
+        Outcome::TooLong => 0,
+        Outcome::NoMark(at) => at,
+        Outcome::Cut(at) => at,
+        Outcome::LengthOver(at) => at,
+        Outcome::TooMany => 0,
+        Outcome::TableShort(needed) => needed,
+    }
 }

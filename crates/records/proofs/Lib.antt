@@ -1,4 +1,5 @@
 -- What belongs to no one function.
 pub mod Ends
 pub mod Range
+pub mod Late
 pub mod Views

@@ -1,4 +1,4 @@
--- A record that ends, ends behind its mark and within the pool. Assumes nothing.
+-- A record that ends, ends behind its mark, within the pool and where its fields say. Assumes nothing.
 use mathlib.Core.Path.{_≡_, refl, sym, ap, _∙_}
 use mathlib.Core.Bool.{Bool, true, false}
 use mathlib.Core.List.{List, [], _∷_}
@@ -10,6 +10,7 @@ use lib.ListN.{length, getD}
 use Rattle.wire.specs.Bytes.{numberAt}
 use Rattle.records.specs.Layout.{Field, fixed, text, entries, layout, markOf, three}
 use Rattle.records.specs.Extents.{pick, fieldEnd, next, fieldsEnd, markedEnd, extentOf}
+use Rattle.records.specs.Fields.{behind, behindAll, behindMark}
 use Rattle.records.specs.declared.Mark.{Mark}
 use Rattle.records.specs.declared.Mark.the-variants.{Of, Unknown}
 use Rattle.records.specs.declared.Extent.{Extent}
@@ -44,47 +45,49 @@ stays (f ∷ fs) p x never = ap (fieldsEnd fs p) (passes x never) ∙ stays fs p
     passes Cut absent = refl
     passes (LengthOver q) absent = refl
 
-pub field-range : (f : Field) (p : List ℕ) (at e : ℕ) → fieldEnd f p at ≡ Ends e → (at ≤ e) × (e ≤ length p)
+-- a field that is there ends within the pool, where its bytes say
+pub field-ends : (f : Field) (p : List ℕ) (at e : ℕ) → fieldEnd f p at ≡ Ends e → (at ≤ e) × (e ≤ length p) × (e ≡ behind f p at)
 unfolding fieldEnd
-field-range (fixed n) p at e h =
+field-ends (fixed n) p at e h =
     let g = guarded (leb (at + n) (length p)) (Ends (at + n)) Cut e cut-ends h in
     omega (arith, leb-true (at + n) (length p) (g .0), ends-inj (at + n) e (g .1))
-field-range (text limit) p at e h =
+field-ends (text limit) p at e h =
     let n = getD p at 0 in
     let whole = pick (leb (at + 1 + n) (length p)) (Ends (at + 1 + n)) Cut in
     let a = guarded (ltb at (length p)) (pick (leb n limit) whole (LengthOver at)) Cut e cut-ends h in
     let b = guarded (leb n limit) whole (LengthOver at) e (over-ends at) (a .1) in
     let g = guarded (leb (at + 1 + n) (length p)) (Ends (at + 1 + n)) Cut e cut-ends (b .1) in
     omega (arith, leb-true (at + 1 + n) (length p) (g .0), ends-inj (at + 1 + n) e (g .1))
-field-range entries p at e h =
+field-ends entries p at e h =
     let end = at + 2 + 2 * numberAt 2 p at in
     let a = guarded (leb (at + 2) (length p)) (pick (leb end (length p)) (Ends end) Cut) Cut e cut-ends h in
     let g = guarded (leb end (length p)) (Ends end) Cut e cut-ends (a .1) in
     omega (arith, leb-true end (length p) (g .0), ends-inj end e (g .1))
 
-pub fields-range : (fs : List Field) (p : List ℕ) (at e : ℕ) → fieldsEnd fs p (Ends at) ≡ Ends e → at ≤ length p → (at ≤ e) × (e ≤ length p)
-fields-range [] p at e h k = omega (arith, ends-inj at e h)
-fields-range (f ∷ fs) p at e h k = go (λ m. fields-range fs p m e) (fieldEnd f p at) refl h
+pub fields-end : (fs : List Field) (p : List ℕ) (at e : ℕ) → fieldsEnd fs p (Ends at) ≡ Ends e → at ≤ length p → (at ≤ e) × (e ≤ length p) × (e ≡ behindAll fs p at)
+fields-end [] p at e h k = omega (arith, ends-inj at e h)
+fields-end (f ∷ fs) p at e h k = go (λ m. fields-end fs p m e) (fieldEnd f p at) refl h
   where
     refused : (x : Extent) → ((m : ℕ) → x ≡ Ends m → ⊥) → fieldsEnd fs p x ≡ Ends e → ⊥
     refused x never g = never e (sym (stays fs p x never) ∙ g)
 
-    go : ((m : ℕ) → fieldsEnd fs p (Ends m) ≡ Ends e → m ≤ length p → (m ≤ e) × (e ≤ length p)) → (x : Extent) → fieldEnd f p at ≡ x → fieldsEnd fs p x ≡ Ends e → (at ≤ e) × (e ≤ length p)
+    go : ((m : ℕ) → fieldsEnd fs p (Ends m) ≡ Ends e → m ≤ length p → (m ≤ e) × (e ≤ length p) × (e ≡ behindAll fs p m))
+        → (x : Extent) → fieldEnd f p at ≡ x → fieldsEnd fs p x ≡ Ends e → (at ≤ e) × (e ≤ length p) × (e ≡ behindAll fs p (behind f p at))
     go rest (Ends m) q g =
-        let a = field-range f p at m q in
+        let a = field-ends f p at m q in
         let b = rest m g (a .1) in
-        omega arith
+        (omega arith, b .1, b .2 ∙ ap (behindAll fs p) (a .2))
     go rest NoMark q g = absurd (refused NoMark unmarked-ends g)
     go rest Cut q g = absurd (refused Cut cut-ends g)
     go rest (LengthOver o) q g = absurd (refused (LengthOver o) (over-ends o) g)
 
-pub extent-range : (p : List ℕ) (at e : ℕ) → extentOf p at ≡ Ends e → (at + 3 ≤ e) × (e ≤ length p)
+pub extent-ends : (p : List ℕ) (at e : ℕ) → extentOf p at ≡ Ends e → (at + 3 ≤ e) × (e ≤ length p) × (e ≡ behindMark (markOf (three p at)) p at)
 unfolding extentOf
-extent-range p at e h =
+extent-ends p at e h =
     let g = guarded (leb (at + 3) (length p)) (markedEnd (markOf (three p at)) p (at + 3)) Cut e cut-ends h in
     let fits : at + 3 ≤ length p = leb-true (at + 3) (length p) (g .0) in
     go fits (markOf (three p at)) (g .1)
   where
-    go : at + 3 ≤ length p → (m : Mark) → markedEnd m p (at + 3) ≡ Ends e → (at + 3 ≤ e) × (e ≤ length p)
-    go fits (Of k) g = fields-range (layout k) p (at + 3) e g fits
+    go : at + 3 ≤ length p → (m : Mark) → markedEnd m p (at + 3) ≡ Ends e → (at + 3 ≤ e) × (e ≤ length p) × (e ≡ behindMark m p at)
+    go fits (Of k) g = fields-end (layout k) p (at + 3) e g fits
     go fits Unknown g = absurd (unmarked-ends e g)

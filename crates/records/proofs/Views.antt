@@ -6,7 +6,11 @@ use lib.IntN.{ℤ}
 use lib.ListN.{getD}
 use Rattle.wire.specs.Bytes.{numberAt, signedOf}
 use Rattle.records.specs.Layout.{layout}
-use Rattle.records.specs.Fields.{textAt, bytesAt, fieldAt, deviceOf, elementOf, entryOf, processDataOf, propertyOf, presentationOf}
+use Rattle.records.specs.Fields.{textAt, bytesAt, behindAll, behindMark, fieldAt, deviceOf, elementOf, entryOf, processDataOf, propertyOf, presentationOf}
+use Rattle.records.specs.declared.Kind.{Kind}
+use Rattle.records.specs.declared.Kind.the-variants.{Dvc, Det, Dpd, Dpt, Dvp}
+use Rattle.records.specs.declared.Mark.{Mark}
+use Rattle.records.specs.declared.Mark.the-variants.{Of}
 use Rattle.records.specs.declared.Span.{Span}
 use Rattle.records.specs.declared.Device.{Device}
 use Rattle.records.specs.declared.DeviceElement.{DeviceElement}
@@ -48,3 +52,28 @@ module _ (p : List ℕ) (at : ℕ) where
       → _≡_ {A = ValuePresentation} (record { offset = o; scale = s; decimals = k; unit = u }) (presentationOf p at)
   unfolding presentationOf fieldAt layout
   presentation-view u s k o ho hs hk hu = cc
+
+  -- the place behind the last field
+  pub dvc-behind : (d v s e : Span) → d ≡ textAt p (at + 3 + 2) → v ≡ textAt p (d .to) → s ≡ textAt p (v .to + 8) → e ≡ textAt p (s .to + 7 + 7)
+      → e .to ≡ behindAll (layout Dvc) p (at + 3)
+  unfolding layout
+  dvc-behind d v s e hd hv hs he = cc
+
+  pub det-behind : (d : Span) (n : ℕ) → d ≡ textAt p (at + 3 + 2 + 1) → n ≡ numberAt 2 p (d .to + 2 + 2) → d .to + 2 + 2 + 2 + 2 * n ≡ behindAll (layout Det) p (at + 3)
+  unfolding layout
+  det-behind d n hd hn = cc
+
+  pub dpd-behind : (d : Span) → d ≡ textAt p (at + 3 + 2 + 2 + 1 + 1) → d .to + 2 ≡ behindAll (layout Dpd) p (at + 3)
+  unfolding layout
+  dpd-behind d hd = cc
+
+  pub dpt-behind : (d : Span) → d ≡ textAt p (at + 3 + 2 + 2 + 4) → d .to + 2 ≡ behindAll (layout Dpt) p (at + 3)
+  unfolding layout
+  dpt-behind d hd = cc
+
+  pub dvp-behind : (u : Span) → u ≡ textAt p (at + 3 + 2 + 4 + 4 + 1) → u .to ≡ behindAll (layout Dvp) p (at + 3)
+  unfolding layout
+  dvp-behind u hu = cc
+
+  pub mark-behind : (m : Mark) (k j : Kind) (e : ℕ) → m ≡ Of k → k ≡ j → e ≡ behindAll (layout j) p (at + 3) → e ≡ behindMark m p at
+  mark-behind m k j e hm hk he = he ∙ ap (λ (x : Mark). behindMark x p at) (ap Of (sym hk) ∙ sym hm)

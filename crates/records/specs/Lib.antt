@@ -2,3 +2,4 @@
 pub mod Layout
 pub mod Extents
 pub mod Fields
+pub mod Late

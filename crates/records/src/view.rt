@@ -2,6 +2,7 @@
 // that is not whole, bytes past the pool's end read as 0.
 use super::Device;
 use super::DeviceElement;
+use super::Kind;
 use super::Mark;
 use super::ProcessData;
 use super::Property;
@@ -10,7 +11,7 @@ use super::ValuePresentation;
 ghost use mathlib.Core.Path.{_≡_};
 ghost use Prim.Native.Nat.{_+_, _≤_, _<_};
 ghost use Rattle.records.specs.Layout.{markOf, three};
-ghost use Rattle.records.specs.Fields.{textAt, idOf, deviceOf, elementOf, entryOf, processDataOf, propertyOf, presentationOf};
+ghost use Rattle.records.specs.Fields.{textAt, behindMark, idOf, deviceOf, elementOf, entryOf, processDataOf, propertyOf, presentationOf};
 
 pub fn mark(p: &[u8], at: u16) -> Mark
     ensures { λ r. ⌜ r ≡ markOf (three (now (p .entry)) at) ⌝ }
@@ -161,5 +162,41 @@ pub fn value_presentation(p: &[u8], at: u16) -> ValuePresentation
         scale,
         decimals,
         unit,
+    }
+}
+
+// The place behind the last field of a record with this mark.
+pub fn end(p: &[u8], m: Mark, at: u16) -> usize
+    ensures { λ r. ⌜ r ≡ behindMark m (now (p .entry)) at ⌝ }
+{
+    let id_at = at as usize + 3;
+    match m {
+        Mark::Unknown => id_at,
+        Mark::Of(k) => match k {
+            Kind::Dvc => {
+                let designator = text(p, id_at + 2);
+                let version = text(p, designator.to);
+                let serial = text(p, version.to + 8);
+                let extended = text(p, serial.to + 7 + 7);
+                extended.to
+            }
+            Kind::Det => {
+                let designator = text(p, id_at + 2 + 1);
+                let count_at = designator.to + 2 + 2;
+                count_at + 2 + 2 * wire::read_u16(p, count_at) as usize
+            }
+            Kind::Dpd => {
+                let designator = text(p, id_at + 2 + 2 + 1 + 1);
+                designator.to + 2
+            }
+            Kind::Dpt => {
+                let designator = text(p, id_at + 2 + 2 + 4);
+                designator.to + 2
+            }
+            Kind::Dvp => {
+                let unit = text(p, id_at + 2 + 4 + 4 + 1);
+                unit.to
+            }
+        },
     }
 }

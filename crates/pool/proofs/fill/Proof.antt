@@ -1,7 +1,6 @@
 -- `pool::fill` meets its contract: what is left to fill gives the whole table. Assumes nothing.
-use Prim.Native.Nat.{_-_}
+use Prim.Native.Nat.{_-_, _<_}
 use native.Mathlib.Omega.{arith}
-use borrow.Author.Needs.{needs}
 use lib.ListN.{length}
 use Rattle.pool.proofs.Filling.{Filling, fill-start, fill-room, fill-more, fill-end}
 use Rattle.pool.proofs.fill.Statement.{statement}
@@ -16,20 +15,17 @@ abbrev μ-loop : tie.MeasureT-loop
 loop-holds : tie.Need-loop-holds Inv-loop μ-loop
 loop-holds c = fill-start (c .before .before .args .p .now) (c .before .before .args .table .now) (c .before .before .pre .1) (c .before .before .pre .2)
 
-end-of-requires : tie.Need-end-of-requires Inv-loop μ-loop
-end-of-requires c κs = search needs
-
 put-record-requires : tie.Need-put-record-requires Inv-loop μ-loop
-put-record-requires c κs = let r = fill-room (c .before .before .before .before .before .before .args .p .now) (c .before .before .before .before .before .before .args .table .now) _ (c .before .before .before .loop .at) (c .before .before .before .loop .n) _ (c .before .before .loop-test .taken) (c .before .end-of .ensures) (c .before .before .before .loop .inv) in (r .0, omega (arith, r), omega (arith, r, c .before .before .before .before .before .before .pre .0))
+put-record-requires c κs = let r = fill-room (c .before .before .before .before .before .args .p .now) (c .before .before .before .before .before .args .table .now) _ (c .before .before .loop .at) (c .before .before .loop .n) (c .before .loop-test .taken) (c .before .before .loop .inv) in (r .0, omega (arith, r .1), omega (arith, r .2, c .before .before .before .before .before .pre .0))
 
 add-n : tie.Need-add-n Inv-loop μ-loop
-add-n c = let r = fill-room (c .before .before .before .before .before .before .before .before .before .args .p .now) (c .before .before .before .before .before .before .before .before .before .args .table .now) _ (c .before .before .before .before .before .before .loop .at) (c .before .before .before .before .before .before .loop .n) _ (c .before .before .before .before .before .loop-test .taken) (c .before .before .before .before .end-of .ensures) (c .before .before .before .before .before .before .loop .inv) in omega (arith, r, c .before .before .before .before .before .before .before .before .before .good)
+add-n c = let r = fill-room (c .before .before .before .before .before .before .before .before .args .p .now) (c .before .before .before .before .before .before .before .before .args .table .now) _ (c .before .before .before .before .before .loop .at) (c .before .before .before .before .before .loop .n) (c .before .before .before .before .loop-test .taken) (c .before .before .before .before .before .loop .inv) in omega (arith, r .0, c .before .before .before .before .before .loop .inv .long, c .before .before .before .before .before .before .before .before .good)
 
 loop-less : tie.Need-loop-less Inv-loop μ-loop
-loop-less c = let r = fill-room (c .before .before .before .before .before .before .before .before .before .args .p .now) (c .before .before .before .before .before .before .before .before .before .args .table .now) _ (c .before .before .before .before .before .before .loop .at) (c .before .before .before .before .before .before .loop .n) _ (c .before .before .before .before .before .loop-test .taken) (c .before .before .before .before .end-of .ensures) (c .before .before .before .before .before .before .loop .inv) in omega (arith, r)
+loop-less c = let r = fill-room (c .before .before .before .before .before .before .before .before .args .p .now) (c .before .before .before .before .before .before .before .before .args .table .now) _ (c .before .before .before .before .before .loop .at) (c .before .before .before .before .before .loop .n) (c .before .before .before .before .loop-test .taken) (c .before .before .before .before .before .loop .inv) in omega (arith, r .1, r .2, c .before .before .put-record .ensures .0)
 
 loop-again : tie.Need-loop-again Inv-loop μ-loop
-loop-again c = fill-more (c .before .before .before .before .before .before .before .before .before .args .p .now) (c .before .before .before .before .before .before .before .before .before .args .table .now) _ (c .before .before .before .before .before .before .loop .at) (c .before .before .before .before .before .before .loop .n) _ (c .before .before .before .before .before .loop-test .taken) (c .before .before .before .before .end-of .ensures) (c .before .before .before .before .before .before .loop .inv) _ (c .before .before .put-record .ensures)
+loop-again c = fill-more (c .before .before .before .before .before .before .before .before .args .p .now) (c .before .before .before .before .before .before .before .before .args .table .now) _ (c .before .before .before .before .before .loop .at) (c .before .before .before .before .before .loop .n) (c .before .before .before .before .loop-test .taken) (c .before .before .before .before .before .loop .inv) _ _ (c .before .before .put-record .ensures .0) (c .before .before .put-record .ensures .1)
 
 same-length : tie.Need-same-length Inv-loop μ-loop
 same-length c = c .before .loop .inv .long
@@ -44,7 +40,6 @@ fill-spec =
     Inv-loop
     μ-loop
     loop-holds
-    end-of-requires
     put-record-requires
     add-n
     loop-less

@@ -4,7 +4,7 @@ use Prim.Native.Nat.{_-_, _≤_, _<_}
 use native.Mathlib.Omega.{arith}
 use borrow.Author.Needs.{needs}
 use lib.ListN.{length}
-use Rattle.records.proofs.Range.{extent-range}
+use Rattle.records.proofs.Range.{extent-ends}
 use Rattle.pool.specs.Reading.{unmarked, cut, over, scanOf}
 use Rattle.pool.specs.Walk.{countFrom}
 use Rattle.pool.proofs.Steps.{Standing, advance, stopped, finished}
@@ -31,13 +31,13 @@ add-n : tie.Need-add-n Inv-loop μ-loop
 add-n c = omega arith
 
 loop-less : tie.Need-loop-less Inv-loop μ-loop
-loop-less c = let r = extent-range (c .before .before .before .before .before .before .before .args .p .now) (c .before .before .before .before .before .loop .at) _ (sym (c .before .before .before .record-extent .ensures) ∙ c .before .extent .given .1) in omega (arith, r, c .before .before .before .before .loop-test .taken)
+loop-less c = let r = extent-ends (c .before .before .before .before .before .before .before .args .p .now) (c .before .before .before .before .before .loop .at) _ (sym (c .before .before .before .record-extent .ensures) ∙ c .before .extent .given .1) in omega (arith, r, c .before .before .before .before .loop-test .taken)
 
 loop-again : tie.Need-loop-again Inv-loop μ-loop
 loop-again c =
     let p = c .before .before .before .before .before .before .before .args .p .now in
     let x = sym (c .before .before .before .record-extent .ensures) ∙ c .before .extent .given .1 in
-    let r = extent-range p (c .before .before .before .before .before .loop .at) _ x in
+    let r = extent-ends p (c .before .before .before .before .before .loop .at) _ x in
     (r .1, omega (arith, r, c .before .before .before .before .before .loop .inv .1), advance p _ (c .before .before .before .before .before .loop .at) (c .before .before .before .before .before .loop .n) (c .before .before .before .before .loop-test .taken) _ x (c .before .before .before .before .before .loop .inv .2))
 
 enum-told : tie.Need-enum-told Inv-loop μ-loop

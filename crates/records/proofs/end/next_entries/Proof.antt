@@ -1,7 +1,7 @@
 -- `records::end::next_entries` meets its contract. Assumes nothing.
 use mathlib.Core.Path.{_≡_, sym, ap, _∙_}
 use Rattle.records.specs.Layout.{entries}
-use Rattle.records.specs.Extents.{next}
+use Rattle.records.specs.Late.{lateNext}
 use borrow.Author.Needs.{needs}
 use Rattle.records.proofs.end.next_entries.Statement.{statement}
 use Rattle.records.proofs.end.next_entries.Tie as tie
@@ -22,7 +22,7 @@ enum-known-e-2 : tie.Need-enum-known-e-2
 enum-known-e-2 c = search needs
 
 returns : tie.Need-returns
-returns c = c .entries-end .ensures ∙ ap (next entries (c .before .before .before .before .before .args .p .now)) (sym (c .before .before .e .given .1))
+returns c = c .entries-end .ensures ∙ ap (lateNext entries (c .before .before .before .before .before .args .p .now)) (sym (c .before .before .e .given .1))
 
 returns-2 : tie.Need-returns-2
 returns-2 c = search needs
@@ -31,7 +31,7 @@ returns-3 : tie.Need-returns-3
 returns-3 c = search needs
 
 returns-4 : tie.Need-returns-4
-returns-4 c = ap (next entries (c .before .before .before .before .args .p .now)) (sym (c .before .e2 .given .1))
+returns-4 c = ap (lateNext entries (c .before .before .before .before .args .p .now)) (sym (c .before .e2 .given .1))
 
 pub next-entries-spec : {M : Type 1} → statement M
 next-entries-spec =

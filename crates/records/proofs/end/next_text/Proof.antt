@@ -1,7 +1,8 @@
 -- `records::end::next_text` meets its contract. Assumes nothing.
 use mathlib.Core.Path.{_≡_, sym, ap, _∙_}
+use native.Mathlib.Omega.{arith}
 use Rattle.records.specs.Layout.{text}
-use Rattle.records.specs.Extents.{next}
+use Rattle.records.specs.Late.{lateNext}
 use borrow.Author.Needs.{needs}
 use Rattle.records.proofs.end.next_text.Statement.{statement}
 use Rattle.records.proofs.end.next_text.Tie as tie
@@ -22,7 +23,7 @@ enum-known-e-2 : tie.Need-enum-known-e-2
 enum-known-e-2 c = search needs
 
 returns : tie.Need-returns
-returns c = c .text-end .ensures ∙ ap (next (text (c .before .before .before .before .before .args .limit)) (c .before .before .before .before .before .args .p .now)) (sym (c .before .before .e .given .1))
+returns c = (c .text-end .ensures .0 ∙ ap (lateNext (text (c .before .before .before .before .before .args .limit)) (c .before .before .before .before .before .args .p .now)) (sym (c .before .before .e .given .1)), c .text-end .ensures .1)
 
 returns-2 : tie.Need-returns-2
 returns-2 c = search needs
@@ -31,7 +32,7 @@ returns-3 : tie.Need-returns-3
 returns-3 c = search needs
 
 returns-4 : tie.Need-returns-4
-returns-4 c = ap (next (text (c .before .before .before .before .args .limit)) (c .before .before .before .before .args .p .now)) (sym (c .before .e2 .given .1))
+returns-4 c = (ap (lateNext (text (c .before .before .before .before .args .limit)) (c .before .before .before .before .args .p .now)) (sym (c .before .e2 .given .1)), omega arith)
 
 pub next-text-spec : {M : Type 1} → statement M
 next-text-spec =

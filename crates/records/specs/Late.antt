@@ -1,0 +1,41 @@
+-- For the contracts of private functions: a record's fields passed without a test of each, and one test at the end. That
+-- this gives the same extents is proved (proofs/Late.antt); no public contract rests on these. Definitions only.
+use Prim.Native.Nat.{ℕ, _+_, _*_}
+use mathlib.Core.List.{List, [], _∷_}
+use lib.Dec.{leb, ltb}
+use lib.ListN.{length, getD}
+use Rattle.wire.specs.Bytes.{numberAt}
+use Rattle.records.specs.Layout.{Field, fixed, text, entries}
+use Rattle.records.specs.Extents.{pick}
+use Rattle.records.specs.declared.Extent.{Extent}
+use Rattle.records.specs.declared.Extent.the-variants.{Ends, NoMark, Cut, LengthOver}
+
+-- only what is looked at has to be there: a length byte, an entry count
+abbrev pub lateField : Field → List ℕ → ℕ → Extent
+lateField (fixed n) p at = Ends (at + n)
+lateField (text limit) p at = pick (ltb at (length p)) (pick (leb (getD p at 0) limit) (Ends (at + 1 + getD p at 0)) (LengthOver at)) Cut
+lateField entries p at = pick (leb (at + 2) (length p)) (Ends (at + 2 + 2 * numberAt 2 p at)) Cut
+
+abbrev pub lateNext : Field → List ℕ → Extent → Extent
+lateNext f p (Ends at) = lateField f p at
+lateNext f p NoMark = NoMark
+lateNext f p Cut = Cut
+lateNext f p (LengthOver at) = LengthOver at
+
+abbrev pub lateFields : List Field → List ℕ → Extent → Extent
+lateFields [] p e = e
+lateFields (f ∷ fs) p e = lateFields fs p (lateNext f p e)
+
+-- the test at the end
+abbrev pub closed : List ℕ → Extent → Extent
+closed p (Ends at) = pick (leb at (length p)) (Ends at) Cut
+closed p NoMark = NoMark
+closed p Cut = Cut
+closed p (LengthOver at) = LengthOver at
+
+-- the place of an end, 0 for a refusal
+abbrev pub placeOf : Extent → ℕ
+placeOf (Ends at) = at
+placeOf NoMark = 0
+placeOf Cut = 0
+placeOf (LengthOver at) = 0

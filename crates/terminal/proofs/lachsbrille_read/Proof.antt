@@ -1,0 +1,27 @@
+-- `terminal::lachsbrille_read` meets its contract. Assumes nothing.
+use mathlib.Core.Path.{_≡_, ap, _∙_}
+use Rattle.pool.specs.Answer.{Answer}
+use borrow.Author.Needs.{needs}
+use Rattle.terminal.proofs.lachsbrille_read.Statement.{statement}
+use Rattle.terminal.proofs.lachsbrille_read.Tie as tie
+
+read-requires : tie.Need-read-requires
+read-requires c κs = search needs
+
+value-of-requires : tie.Need-value-of-requires
+value-of-requires c κs = search needs
+
+number-of-requires : tie.Need-number-of-requires
+number-of-requires c κs = search needs
+
+same-length : tie.Need-same-length
+same-length c = search needs
+
+returns : tie.Need-returns
+returns c =
+    let e = c .before .before .before .before .read .ensures in
+    (record { number = c .number-of .ensures ∙ ap (λ (a : Answer). a .number) (e .0); value = c .before .value-of .ensures ∙ ap (λ (a : Answer). a .value) (e .0) }, e .1)
+
+pub lachsbrille-read-spec : {M : Type 1} → statement M
+lachsbrille-read-spec =
+    tie.close (tie.spec read-requires value-of-requires number-of-requires same-length returns)

@@ -1,0 +1,2 @@
+-- What the contracts of `terminal` cite.
+pub mod Numbers
