@@ -5,21 +5,22 @@ use Prim.Native.Nat.{ℕ, _+_, _-_, _*_, _≤_, _<_}
 use native.Mathlib.Omega.{arith}
 use lib.ListN.{length}
 use lib.Seq.{sets, length-sets}
-use Rattle.records.specs.Layout.{markOf, three}
-use Rattle.records.specs.Fields.{behindMark, idOf}
-use Rattle.records.specs.declared.Mark.{Mark}
-use Rattle.pool.specs.Reading.{Entry, width, numbers, flat, markNumber, entryAt, records, scanFrom, scanOf, entriesIn}
+use Rattle.records.specs.Layout.{markNumber, markOf, three}
+use Rattle.records.specs.Fields.{outlineOf, idOf}
+use Rattle.records.specs.declared.Outline.{Outline}
+use Rattle.pool.specs.Reading.{Entry, width, numbers, flat, entryAt, records, scanFrom, scanOf, entriesIn}
 use Rattle.pool.specs.Walk.{endOf}
 use Rattle.pool.proofs.Steps.{Remaining, Next, next-of, sets-entry, scan-end}
 
--- the end that a record's mark and fields give
-pub end-of-mark : (p : List ℕ) (at e : ℕ) (m : Mark) → m ≡ markOf (three p at) → e ≡ behindMark m p at → e ≡ endOf p at
-end-of-mark p at e m h g = g ∙ ap (λ (x : Mark). behindMark x p at) h
+-- what an outline says of a record
+pub outline-at : (p : List ℕ) (at : ℕ) (o : Outline) → o ≡ outlineOf (markOf (three p at)) p at → (o .kind ≡ markNumber (markOf (three p at))) × (o .end ≡ endOf p at)
+unfolding outlineOf
+outline-at p at o e = (ap (λ (x : Outline). x .kind) e, ap (λ (x : Outline). x .end) e)
 
 -- an entry put together from a record's parts
-pub entry-parts : (table p : List ℕ) (i at e k d : ℕ) → e ≡ endOf p at → k ≡ markNumber (markOf (three p at)) → d ≡ idOf p at
+pub entry-parts : (table p : List ℕ) (i at e k d : ℕ) → k ≡ markNumber (markOf (three p at)) → e ≡ endOf p at → d ≡ idOf p at
     → sets table i (numbers (record { start = at; size = e - at; kind = k; id = d })) ≡ sets table i (numbers (entryAt p at (endOf p at)))
-entry-parts table p i at e k d he hk hd = rw (he, hk, hd)
+entry-parts table p i at e k d hk he hd = rw (hk, he, hd)
 
 -- a table filled up to entry n, where the walk stands at a place
 pub record Filling (p table₀ table : List ℕ) (at n : ℕ) : Type 0 where

@@ -5,11 +5,9 @@ use mathlib.Core.List.{List, [], _∷_, _++_}
 use lib.Dec.{eqb, ltb}
 use lib.ListN.{length}
 use lib.Seq.{sets}
-use Rattle.records.specs.Layout.{kindNumber, markOf, three}
+use Rattle.records.specs.Layout.{markNumber, markOf, three}
 use Rattle.records.specs.Extents.{extentOf}
 use Rattle.records.specs.Fields.{idOf}
-use Rattle.records.specs.declared.Mark.{Mark}
-use Rattle.records.specs.declared.Mark.the-variants.{Of, Unknown}
 use Rattle.records.specs.declared.Extent.{Extent}
 use Rattle.records.specs.declared.Extent.the-variants.{Ends, NoMark, Cut, LengthOver}
 use Rattle.pool.specs.Answer.{Answer, answer}
@@ -31,10 +29,6 @@ numbers e = e .start ∷ e .size ∷ e .kind ∷ e .id ∷ []
 abbrev pub flat : List Entry → List ℕ
 flat [] = []
 flat (e ∷ es) = numbers e ++ flat es
-
-abbrev pub markNumber : Mark → ℕ
-markNumber (Of k) = kindNumber k
-markNumber Unknown = 0
 
 -- the entry of the record from a place up to another
 abbrev pub entryAt : List ℕ → ℕ → ℕ → Entry

@@ -1,13 +1,11 @@
 // Reading a pool: whether it divides into records, and the working table. Every public function takes any bytes and any table.
 use records::Extent;
-use records::Mark;
 ghost use mathlib.Core.Path.{_≡_};
 ghost use Prim.Native.Nat.{_+_, _*_, _≤_, _<_};
 ghost use lib.ListN.{length};
 ghost use lib.Seq.{sets};
-ghost use Rattle.records.specs.declared.Mark.{Mark};
 ghost use Rattle.pool.specs.Answer.{answerOf};
-ghost use Rattle.pool.specs.Reading.{width, numbers, flat, markNumber, entryAt, records, scanOf, entriesIn, readOf, roomOf, tableAfter};
+ghost use Rattle.pool.specs.Reading.{width, numbers, flat, entryAt, records, scanOf, entriesIn, readOf, roomOf, tableAfter};
 ghost use Rattle.pool.specs.Walk.{countFrom, endOf};
 
 // What reading answers: the count of records, or why the pool is refused and where.
@@ -77,15 +75,6 @@ pub fn judge(p: &[u8], room: usize) -> Outcome
     }
 }
 
-fn mark_number(m: Mark) -> u16
-    ensures { λ r. ⌜ r ≡ markNumber m ⌝ }
-{
-    match m {
-        Mark::Of(k) => records::kind_number(k),
-        Mark::Unknown => 0,
-    }
-}
-
 // Writes entry n.
 fn put_entry(table: &mut [u16], n: usize, start: u16, size: u16, kind: u16, id: u16)
     requires { ⌜ n * width + width ≤ length (now table) ⌝ }
@@ -104,10 +93,11 @@ fn put_record(p: &[u8], table: &mut [u16], n: usize, at: usize) -> usize
     ensures { λ r. ⌜ (r ≡ endOf (now (p .entry)) at) × (now (table .exit) ≡ sets (now (table .entry)) (n * width) (numbers (entryAt (now (p .entry)) at (endOf (now (p .entry)) at)))) ⌝ }
 {
     let start = at as u16;
-    let mark = records::view::mark(p, start);
-    let end = records::view::end(p, mark, start);
+    let outline = records::view::outline(p, start);
+    let kind = outline.kind;
+    let end = outline.end;
     let id = records::view::id(p, start);
-    put_entry(table, n, start, (end - at) as u16, mark_number(mark), id);
+    put_entry(table, n, start, (end - at) as u16, kind, id);
     end
 }
 

@@ -1,17 +1,21 @@
 -- A record's fields, from what stands at each place. Assumes nothing.
 use mathlib.Core.Path.{_≡_, refl, sym, ap, _∙_}
-use mathlib.Core.List.{List}
-use Prim.Native.Nat.{ℕ, _+_, _*_}
+use mathlib.Core.Bool.{Bool, true, false, _&&_}
+use mathlib.Core.List.{List, [], _∷_}
+use Prim.Native.Nat.{ℕ, _+_, _*_, _<_}
+use native.Mathlib.Omega.{arith}
 use lib.IntN.{ℤ}
-use lib.ListN.{getD}
+use lib.Dec.{eqb}
+use lib.ListN.{length, getD, List·getD-eq-default}
 use Rattle.wire.specs.Bytes.{numberAt, signedOf}
-use Rattle.records.specs.Layout.{layout}
-use Rattle.records.specs.Fields.{textAt, bytesAt, behindAll, behindMark, fieldAt, deviceOf, elementOf, entryOf, processDataOf, propertyOf, presentationOf}
+use Rattle.records.specs.Layout.{layout, kindNumber, markNumber, mark, markOf, three}
+use Rattle.records.specs.Fields.{textAt, bytesAt, behindAll, behindMark, outlineOf, fieldAt, deviceOf, elementOf, entryOf, processDataOf, propertyOf, presentationOf}
 use Rattle.records.specs.declared.Kind.{Kind}
 use Rattle.records.specs.declared.Kind.the-variants.{Dvc, Det, Dpd, Dpt, Dvp}
 use Rattle.records.specs.declared.Mark.{Mark}
-use Rattle.records.specs.declared.Mark.the-variants.{Of}
+use Rattle.records.specs.declared.Mark.the-variants.{Of, Unknown}
 use Rattle.records.specs.declared.Span.{Span}
+use Rattle.records.specs.declared.Outline.{Outline}
 use Rattle.records.specs.declared.Device.{Device}
 use Rattle.records.specs.declared.DeviceElement.{DeviceElement}
 use Rattle.records.specs.declared.ProcessData.{ProcessData}
@@ -75,5 +79,26 @@ module _ (p : List ℕ) (at : ℕ) where
   unfolding layout
   dvp-behind u hu = cc
 
-  pub mark-behind : (m : Mark) (k j : Kind) (e : ℕ) → m ≡ Of k → k ≡ j → e ≡ behindAll (layout j) p (at + 3) → e ≡ behindMark m p at
-  mark-behind m k j e hm hk he = he ∙ ap (λ (x : Mark). behindMark x p at) (ap Of (sym hk) ∙ sym hm)
+  pub outline-view : (m : Mark) (k j : Kind) (e : ℕ) → m ≡ Of k → k ≡ j → e ≡ behindAll (layout j) p (at + 3)
+      → _≡_ {A = Outline} (record { kind = kindNumber j; end = e }) (outlineOf m p at)
+  unfolding outlineOf
+  outline-view m k j e hm hk he =
+      ap (λ (x : ℕ). record { kind = kindNumber j; end = x }) he
+      ∙ ap (λ (x : Mark). record { kind = markNumber x; end = behindMark x p at }) (ap Of (sym hk) ∙ sym hm)
+
+-- where fewer than three bytes are left, no mark stands: past the end is 0, which is in none
+unmarked : (a b : ℕ) → markOf (a ∷ b ∷ 0 ∷ []) ≡ Unknown
+unfolding markOf mark
+unmarked a b = rw (never (eqb a 68) (eqb b 86), never (eqb a 68) (eqb b 69), never (eqb a 68) (eqb b 80))
+  where
+    never : (x y : Bool) → x && (y && false) ≡ false
+    never true true = refl
+    never true false = refl
+    never false y = refl
+
+pub outline-short : (p : List ℕ) (at : ℕ) → length p < at + 3 → _≡_ {A = Outline} (record { kind = 0; end = at + 3 }) (outlineOf (markOf (three p at)) p at)
+unfolding outlineOf
+outline-short p at h =
+    let z : getD p (at + 2) 0 ≡ 0 = List·getD-eq-default p 0 (omega arith) in
+    let m : markOf (three p at) ≡ Unknown = rw z (unmarked (getD p at 0) (getD p (at + 1) 0)) in
+    ap (λ (x : Mark). outlineOf x p at) (sym m)

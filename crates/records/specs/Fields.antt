@@ -4,12 +4,13 @@ use Prim.Native.Nat.{ℕ, _+_, _*_}
 use mathlib.Core.List.{List, [], _∷_}
 use lib.ListN.{getD, take}
 use Rattle.wire.specs.Bytes.{numberAt, signedOf}
-use Rattle.records.specs.Layout.{Field, fixed, text, entries, layout}
+use Rattle.records.specs.Layout.{Field, fixed, text, entries, layout, markNumber}
 use Rattle.records.specs.declared.Kind.{Kind}
 use Rattle.records.specs.declared.Kind.the-variants.{Dvc, Det, Dpd, Dpt, Dvp}
 use Rattle.records.specs.declared.Mark.{Mark}
 use Rattle.records.specs.declared.Mark.the-variants.{Of, Unknown}
 use Rattle.records.specs.declared.Span.{Span}
+use Rattle.records.specs.declared.Outline.{Outline}
 use Rattle.records.specs.declared.Device.{Device}
 use Rattle.records.specs.declared.DeviceElement.{DeviceElement}
 use Rattle.records.specs.declared.ProcessData.{ProcessData}
@@ -30,6 +31,9 @@ behindAll (f ∷ fs) p at = behindAll fs p (behind f p at)
 abbrev pub behindMark : Mark → List ℕ → ℕ → ℕ
 behindMark (Of k) p at = behindAll (layout k) p (at + 3)
 behindMark Unknown p at = at + 3
+
+unfoldable pub outlineOf : Mark → List ℕ → ℕ → Outline
+outlineOf m p at = record { kind = markNumber m; end = behindMark m p at }
 
 -- where field i of the record that starts at a place stands
 unfoldable pub fieldAt : Kind → ℕ → List ℕ → ℕ → ℕ

@@ -43,6 +43,10 @@ kindNumber Dpd = 3
 kindNumber Dpt = 4
 kindNumber Dvp = 5
 
+abbrev pub markNumber : Mark → ℕ
+markNumber (Of k) = kindNumber k
+markNumber Unknown = 0
+
 -- whether two lists hold the same numbers
 abbrev pub same : List ℕ → List ℕ → Bool
 same [] [] = true

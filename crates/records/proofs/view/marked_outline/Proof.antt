@@ -1,11 +1,11 @@
--- `records::view::end` meets its contract. Assumes nothing.
+-- `records::view::marked_outline` meets its contract. Assumes nothing.
 use mathlib.Core.Path.{_≡_, sym, ap, _∙_}
-use Rattle.records.specs.Fields.{behindMark}
+use Rattle.records.specs.Fields.{outlineOf}
 use Rattle.records.specs.declared.Mark.{Mark}
-use Rattle.records.proofs.Views.{dvc-behind, det-behind, dpd-behind, dpt-behind, dvp-behind, mark-behind}
+use Rattle.records.proofs.Views.{dvc-behind, det-behind, dpd-behind, dpt-behind, dvp-behind, outline-view}
 use borrow.Author.Needs.{needs}
-use Rattle.records.proofs.view.end.Statement.{statement}
-use Rattle.records.proofs.view.end.Tie as tie
+use Rattle.records.proofs.view.marked_outline.Statement.{statement}
+use Rattle.records.proofs.view.marked_outline.Tie as tie
 
 add-id-at : tie.Need-add-id-at
 add-id-at c = search needs
@@ -61,20 +61,20 @@ add-count-at c = search needs
 add-count-at-2 : tie.Need-add-count-at-2
 add-count-at-2 c = search needs
 
-add-result : tie.Need-add-result
-add-result c = search needs
+add-t21 : tie.Need-add-t21
+add-t21 c = search needs
 
 read-u16-requires : tie.Need-read-u16-requires
 read-u16-requires c κs = search needs
 
-cast-result : tie.Need-cast-result
-cast-result c = search needs
+cast-t20 : tie.Need-cast-t20
+cast-t20 c = search needs
 
-mul-result : tie.Need-mul-result
-mul-result c = search needs
+mul-t23 : tie.Need-mul-t23
+mul-t23 c = search needs
 
-add-result-2 : tie.Need-add-result-2
-add-result-2 c = search needs
+add-t24 : tie.Need-add-t24
+add-t24 c = search needs
 
 enum-told-4 : tie.Need-enum-told-4
 enum-told-4 c = search needs
@@ -94,8 +94,8 @@ add-text-10 c = search needs
 text-requires-6 : tie.Need-text-requires-6
 text-requires-6 c κs = search needs
 
-add-result-3 : tie.Need-add-result-3
-add-result-3 c = search needs
+add-t25 : tie.Need-add-t25
+add-t25 c = search needs
 
 enum-told-5 : tie.Need-enum-told-5
 enum-told-5 c = search needs
@@ -112,8 +112,8 @@ add-text-13 c = search needs
 text-requires-7 : tie.Need-text-requires-7
 text-requires-7 c κs = search needs
 
-add-result-4 : tie.Need-add-result-4
-add-result-4 c = search needs
+add-t29 : tie.Need-add-t29
+add-t29 c = search needs
 
 enum-told-6 : tie.Need-enum-told-6
 enum-told-6 c = search needs
@@ -134,35 +134,36 @@ text-requires-8 : tie.Need-text-requires-8
 text-requires-8 c κs = search needs
 
 returns : tie.Need-returns
-returns c = let a = c .before .before .before .args in ap (λ (m : Mark). behindMark m (a .p .now) (a .at)) (sym (c .enum-told .given .1))
+unfolding outlineOf
+returns c = let a = c .before .before .before .args in ap (λ (m : Mark). outlineOf m (a .p .now) (a .at)) (sym (c .enum-told .given .1))
 
 returns-2 : tie.Need-returns-2
 returns-2 c =
     let a = c .before .before .before .before .before .before .before .before .before .before .before .before .args in
-    mark-behind (a .p .now) (a .at) (a .m) _ _ _ (c .before .before .before .before .before .before .before .before .before .m .given .1) (c .before .before .before .before .before .before .enum-told2 .given .1) (dvc-behind (a .p .now) (a .at) _ _ _ _ (c .before .before .before .before .before .text .ensures .0) (c .before .before .before .before .text2 .ensures .0) (c .before .before .text3 .ensures .0) (c .text4 .ensures .0))
+    outline-view (a .p .now) (a .at) (a .m) _ _ _ (c .before .before .before .before .before .before .before .before .before .m .given .1) (c .before .before .before .before .before .before .enum-told2 .given .1) (dvc-behind (a .p .now) (a .at) _ _ _ _ (c .before .before .before .before .before .text .ensures .0) (c .before .before .before .before .text2 .ensures .0) (c .before .before .text3 .ensures .0) (c .text4 .ensures .0))
 
 returns-3 : tie.Need-returns-3
 returns-3 c =
     let a = c .before .before .before .before .before .before .before .before .before .args in
-    mark-behind (a .p .now) (a .at) (a .m) _ _ _ (c .before .before .before .before .before .before .m .given .1) (c .before .before .before .enum-told3 .given .1) (det-behind (a .p .now) (a .at) _ _ (c .before .before .text5 .ensures .0) (c .read-u16 .ensures))
+    outline-view (a .p .now) (a .at) (a .m) _ _ _ (c .before .before .before .before .before .before .m .given .1) (c .before .before .before .enum-told3 .given .1) (det-behind (a .p .now) (a .at) _ _ (c .before .before .text5 .ensures .0) (c .read-u16 .ensures))
 
 returns-4 : tie.Need-returns-4
 returns-4 c =
     let a = c .before .before .before .before .before .before .before .before .args in
-    mark-behind (a .p .now) (a .at) (a .m) _ _ _ (c .before .before .before .before .before .m .given .1) (c .before .before .enum-told4 .given .1) (dpd-behind (a .p .now) (a .at) _ (c .before .text6 .ensures .0))
+    outline-view (a .p .now) (a .at) (a .m) _ _ _ (c .before .before .before .before .before .m .given .1) (c .before .before .enum-told4 .given .1) (dpd-behind (a .p .now) (a .at) _ (c .before .text6 .ensures .0))
 
 returns-5 : tie.Need-returns-5
 returns-5 c =
     let a = c .before .before .before .before .before .before .before .before .args in
-    mark-behind (a .p .now) (a .at) (a .m) _ _ _ (c .before .before .before .before .before .m .given .1) (c .before .before .enum-told5 .given .1) (dpt-behind (a .p .now) (a .at) _ (c .before .text7 .ensures .0))
+    outline-view (a .p .now) (a .at) (a .m) _ _ _ (c .before .before .before .before .before .m .given .1) (c .before .before .enum-told5 .given .1) (dpt-behind (a .p .now) (a .at) _ (c .before .text7 .ensures .0))
 
 returns-6 : tie.Need-returns-6
 returns-6 c =
     let a = c .before .before .before .before .before .before .before .args in
-    mark-behind (a .p .now) (a .at) (a .m) _ _ _ (c .before .before .before .before .m .given .1) (c .before .enum-told6 .given .1) (dvp-behind (a .p .now) (a .at) _ (c .text8 .ensures .0))
+    outline-view (a .p .now) (a .at) (a .m) _ _ _ (c .before .before .before .before .m .given .1) (c .before .enum-told6 .given .1) (dvp-behind (a .p .now) (a .at) _ (c .text8 .ensures .0))
 
-pub end-spec : {M : Type 1} → statement M
-end-spec =
+pub marked-outline-spec : {M : Type 1} → statement M
+marked-outline-spec =
     tie.close
     (tie.spec
     add-id-at
@@ -183,24 +184,24 @@ end-spec =
     text-requires-5
     add-count-at
     add-count-at-2
-    add-result
+    add-t21
     read-u16-requires
-    cast-result
-    mul-result
-    add-result-2
+    cast-t20
+    mul-t23
+    add-t24
     enum-told-4
     add-text-7
     add-text-8
     add-text-9
     add-text-10
     text-requires-6
-    add-result-3
+    add-t25
     enum-told-5
     add-text-11
     add-text-12
     add-text-13
     text-requires-7
-    add-result-4
+    add-t29
     enum-told-6
     add-text-14
     add-text-15
