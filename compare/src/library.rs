@@ -1,0 +1,68 @@
+//! The proved static library, through its C functions.
+
+use second::{Kind, Record, Refusal};
+
+extern "C" {
+    fn lachsbrille_read(
+        pool: *const u8,
+        pool_len: usize,
+        table: *mut u16,
+        table_len: usize,
+        value: *mut usize,
+    ) -> u32;
+}
+
+/// Words of a table entry: start, length, kind, ID.
+pub const ENTRY_WORDS: usize = 4;
+
+/// What reading gives: number 0 with the count of records, or a refusal's
+/// number with its place.
+#[derive(Clone, Copy, Debug, PartialEq, Eq)]
+pub struct Answer {
+    pub number: u32,
+    pub value: usize,
+}
+
+/// Reads `pool` with the proved library; the table counts words.
+pub fn read(pool: &[u8], table: &mut [u16]) -> Answer {
+    // No reading gives this value: it shows where none was written.
+    let mut value = usize::MAX;
+    // SAFETY: the three areas are live and apart for the whole call, and the
+    // pointer of an empty slice is not null.
+    let number = unsafe {
+        lachsbrille_read(
+            pool.as_ptr(),
+            pool.len(),
+            table.as_mut_ptr(),
+            table.len(),
+            &mut value,
+        )
+    };
+    Answer { number, value }
+}
+
+/// The same answer as the library would give it.
+pub fn answer_of(result: Result<usize, Refusal>) -> Answer {
+    match result {
+        Ok(count) => Answer {
+            number: 0,
+            value: count,
+        },
+        Err(refusal) => Answer {
+            number: refusal.number.into(),
+            value: refusal.place,
+        },
+    }
+}
+
+/// The same entry as the library would write it.
+pub fn words_of(record: &Record) -> [u16; ENTRY_WORDS] {
+    let kind = match record.kind {
+        Kind::Dvc => 1,
+        Kind::Det => 2,
+        Kind::Dpd => 3,
+        Kind::Dpt => 4,
+        Kind::Dvp => 5,
+    };
+    [record.start, record.length, kind, record.id]
+}

@@ -1,0 +1,4 @@
+-- What belongs to no one function. Assumes nothing.
+pub mod Passing
+pub mod Sorting
+pub mod Verdict

@@ -1,0 +1,144 @@
+-- The walk over whole records, and over what stands behind them. Assumes nothing.
+use mathlib.Core.Path.{_≡_, refl, ap, _∙_}
+use mathlib.Core.List.{List, [], _∷_, _++_, append-assoc, append-nil}
+use Prim.Native.Nat.{ℕ, zero, suc, _+_, _-_, _≤_, _<_}
+use native.Mathlib.Omega.{arith}
+use lib.ListN.{length, take, drop, length-append, length-drop}
+use lib.Seq.{take-at, take-append-le, drop-append-le, drop-append-add}
+use Rattle.wire.specs.Bytes.{leOf, numberAt}
+use Rattle.records.specs.Layout.{mark, markOf, kindNumber, three}
+use Rattle.records.specs.Extents.{extentOf}
+use Rattle.records.specs.Fields.{idOf}
+use Rattle.records.specs.declared.Mark.the-variants.{Of}
+use Rattle.records.specs.declared.Extent.{Extent}
+use Rattle.records.specs.declared.Extent.the-variants.{NoMark, Cut, LengthOver}
+use Rattle.division.specs.Whole.{Whole}
+use Rattle.division.specs.Division.{AllWhole, joined}
+use Rattle.division.proofs.Marks.{mark-length, mark-of, three-behind}
+use Rattle.division.proofs.Records.{whole-ends, unmarked-refused, cut-refused, over-refused}
+use Rattle.division.proofs.Unique.{shortest}
+use Rattle.pool.specs.Reading.{Entry, entryAt, Cause, unmarked, cut, over, causeNumber, Scan, records, refused, onto, turn, scanFrom, scanOf}
+use Rattle.pool.proofs.Steps.{scan-turn, scan-end}
+use Rattle.claims.specs.Reads.{listed, Bad, Bad.unmarked as bad-mark, Bad.cut as bad-cut, Bad.over as bad-over, Earliest}
+
+-- ---- the entry of a whole record behind other bytes
+module _ (r pre post : List ℕ) (w : Whole r) where
+  kind-behind : markOf (three (pre ++ (r ++ post)) (length pre)) ≡ Of (w .kind)
+  kind-behind =
+      let m : List ℕ = mark (w .kind) in
+      rw (three-behind pre (r ++ post) (omega (arith, shortest r w, length-append r post)), w .marked, append-assoc, take-at m (w .body ++ post) 3 (mark-length (w .kind)))
+      (mark-of (w .kind))
+
+  id-behind : idOf (pre ++ (r ++ post)) (length pre) ≡ leOf (take 2 (drop 3 r))
+  unfolding idOf numberAt
+  id-behind =
+      let h : 3 ≤ length r = omega (arith, shortest r w) in
+      let g : 2 ≤ length (drop 3 r) = omega (arith, shortest r w, length-drop 3 r) in
+      rw (drop-append-add pre (r ++ post) 3, drop-append-le 3 r post h, take-append-le 2 (drop 3 r) post g)
+
+  entry-behind : entryAt (pre ++ (r ++ post)) (length pre) (length pre + length r)
+      ≡ record { start = length pre; size = length r; kind = kindNumber (w .kind); id = leOf (take 2 (drop 3 r)) }
+  entry-behind =
+      let size : length pre + length r - length pre ≡ length r = omega arith in
+      rw (kind-behind, id-behind, size)
+
+-- ---- entries in front of what is walked behind them
+abbrev ontoAll : List Entry → Scan → Scan
+ontoAll [] s = s
+ontoAll (e ∷ es) s = onto e (ontoAll es s)
+
+onto-none : (es : List Entry) → ontoAll es (records []) ≡ records es
+onto-none [] = refl
+onto-none (e ∷ es) = rw (onto-none es)
+
+onto-refused : (es : List Entry) (c : Cause) (at : ℕ) → ontoAll es (refused c at) ≡ refused c at
+onto-refused [] c at = refl
+onto-refused (e ∷ es) c at = rw (onto-refused es c at)
+
+-- bytes that a walk sees alike wherever they stand
+abbrev Walked : List ℕ → (ℕ → Scan) → Type 0
+Walked tail end = (front : List ℕ) (turns : ℕ) → length tail ≤ turns → scanFrom turns (front ++ tail) (length front) ≡ end (length front)
+
+-- the walk over whole records: their entries, and then what is walked behind them
+walk-past : (tail : List ℕ) (end : ℕ → Scan) → Walked tail end
+    → (rs : List (List ℕ)) (w : AllWhole rs) (pre : List ℕ) (turns : ℕ) → length (joined rs ++ tail) ≤ turns
+    → scanFrom turns (pre ++ (joined rs ++ tail)) (length pre) ≡ ontoAll (listed rs w (length pre)) (end (length pre + length (joined rs)))
+walk-past tail end law [] w pre turns h = let z : length pre + 0 ≡ length pre = omega arith in rw z (law pre turns h)
+walk-past tail end law (r ∷ rs) w pre zero h =
+    absurd (omega (arith, shortest r (w .0), length-append (r ++ joined rs) tail, length-append r (joined rs)))
+walk-past tail end law (r ∷ rs) w pre (suc turns) h =
+    let post : List ℕ = joined rs ++ tail in
+    let p : List ℕ = pre ++ (r ++ post) in
+    let long : 12 ≤ length r = shortest r (w .0) in
+    let lr : length (r ++ post) ≡ length r + length post = length-append r post in
+    let lp : length p ≡ length pre + length (r ++ post) = length-append pre (r ++ post) in
+    let all : (r ++ joined rs) ++ tail ≡ r ++ post = append-assoc r (joined rs) tail in
+    let la : length ((r ++ joined rs) ++ tail) ≡ length (r ++ post) = ap length all in
+    let lj : length (r ++ joined rs) ≡ length r + length (joined rs) = length-append r (joined rs) in
+    let sum : length pre + length r + length (joined rs) ≡ length pre + length (r ++ joined rs) = omega arith in
+    let ih = walk-past tail end law rs (w .1) (pre ++ r) turns (omega arith) in
+    let later : scanFrom turns p (length pre + length r) ≡ ontoAll (listed rs (w .1) (length pre + length r)) (end (length pre + length (r ++ joined rs)))
+    = rw (append-assoc, length-append pre r, sum) at ih in
+    rw all
+    (scan-turn turns p (length pre) (omega arith)
+    ∙ rw (whole-ends r pre post (w .0), entry-behind r pre post (w .0), later))
+
+-- ---- a pool of whole records
+pub scan-whole : (rs : List (List ℕ)) (w : AllWhole rs) → scanOf (joined rs) ≡ records (listed rs w 0)
+unfolding scanOf
+scan-whole rs w =
+    let all : joined rs ++ [] ≡ joined rs = append-nil (joined rs) in
+    let ends : Walked [] (λ at. records []) = λ front turns h. scan-end turns (front ++ []) (length front) (omega (arith, length-append front [])) in
+    rw all at (walk-past [] (λ at. records []) ends rs w [] (length (joined rs)) (rw all (omega arith)))
+    ∙ onto-none (listed rs w 0)
+
+-- ---- a pool with a bad record: bytes that begin with no whole one end the walk
+record Stops (s : List ℕ) (number offset : ℕ) : Type 0 where
+  cause : Cause
+  named : causeNumber cause ≡ number
+  stops : Walked s (λ at. refused cause (at + offset))
+
+-- so does an extent that the walk refuses
+stopped : (s : List ℕ) (x : ℕ → Extent) (c : Cause) (q : ℕ) → 0 < length s
+    → ((front : List ℕ) → extentOf (front ++ s) (length front) ≡ x (length front))
+    → ((rest : ℕ → Scan) (p : List ℕ) (at : ℕ) → turn rest p at (x at) ≡ refused c (at + q)) → Walked s (λ at. refused c (at + q))
+stopped s x c q some law due front zero h = absurd (omega arith)
+stopped s x c q some law due front (suc turns) h =
+    let p : List ℕ = front ++ s in
+    scan-turn turns p (length front) (omega (arith, length-append front s))
+    ∙ ap (turn (scanFrom turns p) p (length front)) (law front)
+    ∙ due (scanFrom turns p) p (length front)
+
+bad-stops : (s : List ℕ) (number offset : ℕ) → Bad s number offset → Stops s number offset
+bad-stops s number offset (bad-mark u) =
+    record {
+      cause = unmarked;
+      named = refl;
+      stops = stopped s (λ at. NoMark) unmarked 0 (omega (arith, u .three)) (λ front. unmarked-refused s front u) (λ rest p at. ap (refused unmarked) (omega arith));
+    }
+bad-stops s number offset (bad-cut some c) =
+    record {
+      cause = cut;
+      named = refl;
+      stops = stopped s (λ at. Cut) cut 0 some (λ front. cut-refused s front c) (λ rest p at. ap (refused cut) (omega arith));
+    }
+bad-stops s number offset (bad-over w) =
+    let k : List ℕ = mark (w .kind) in
+    let l : length s ≡ length k + length (w .bytes ++ (w .over ∷ w .rest)) = ap length (w .stands) ∙ length-append k (w .bytes ++ (w .over ∷ w .rest)) in
+    record {
+      cause = over;
+      named = refl;
+      stops = stopped s (λ at. LengthOver (at + offset)) over offset (omega (arith, mark-length (w .kind))) (λ front. over-refused s front offset w) (λ rest p at. refl);
+    }
+
+pub scan-bad : (p : List ℕ) (number place : ℕ) → Earliest p number place → (c : Cause) × (causeNumber c ≡ number) × (scanOf p ≡ refused c place)
+unfolding scanOf
+scan-bad p number place e =
+    let b = bad-stops (e .rest) number (e .offset) (e .bad) in
+    let es : List Entry = listed (e .before) (e .whole) 0 in
+    let at : 0 + length (joined (e .before)) + e .offset ≡ place = omega (arith, e .at) in
+    let end : ℕ → Scan = λ n. refused (b .cause) (n + e .offset) in
+    let all : List ℕ = joined (e .before) ++ e .rest in
+    let walked : scanFrom (length all) all 0 ≡ ontoAll es (refused (b .cause) place) =
+    rw at at (walk-past (e .rest) end (b .stops) (e .before) (e .whole) [] (length all) (omega arith)) in
+    (b .cause, b .named, rw (e .same) (walked ∙ onto-refused es (b .cause) place))

@@ -1,0 +1,4 @@
+-- What the contracts of `claims` cite.
+pub mod Reads
+pub mod Pools
+pub mod Starred

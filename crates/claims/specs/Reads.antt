@@ -1,0 +1,53 @@
+-- Reading, said by the division of a pool alone: when a pool is read, what the table then holds, and each refusal "given
+-- exactly when". Definitions only.
+use Prim.Native.Nat.{ℕ, _+_, _≤_, _<_}
+use mathlib.Core.Path.{_≡_}
+use mathlib.Core.Logic.{_↔_}
+use mathlib.Core.List.{List, [], _∷_, _++_}
+use lib.ListN.{length, take, drop}
+use Rattle.wire.specs.Bytes.{leOf}
+use Rattle.records.specs.Layout.{kindNumber}
+use Rattle.division.specs.Whole.{Whole}
+use Rattle.division.specs.Bad.{Unmarked, CutShort, OverLimit}
+use Rattle.division.specs.Division.{AllWhole, joined, Division}
+use Rattle.pool.specs.Answer.{answer}
+use Rattle.pool.specs.Reading.{Entry, readOf, scanOf, entriesIn}
+
+-- the entries of records that stand back to back from a place on: start, length, kind and ID of each
+abbrev pub listed : (rs : List (List ℕ)) → AllWhole rs → ℕ → List Entry
+listed [] w at = []
+listed (r ∷ rs) w at = record { start = at; size = length r; kind = kindNumber (w .0 .kind); id = leOf (take 2 (drop 3 r)) } ∷ listed rs (w .1) (at + length r)
+
+-- what is wrong at the start of bytes that are no whole record, as the refusal's number and its place from there
+pub data Bad : List ℕ → ℕ → ℕ → Type 0 where
+  unmarked : {s : List ℕ} → Unmarked s → Bad s 3 0
+  cut : {s : List ℕ} → 0 < length s → CutShort s → Bad s 4 0
+  over : {s : List ℕ} {place : ℕ} → OverLimit s place → Bad s 5 place
+
+-- the earliest bad record: whole records, and then bytes that begin with none
+pub record Earliest (p : List ℕ) (number place : ℕ) : Type 0 where
+  pub before : List (List ℕ)
+  pub whole : AllWhole before
+  pub rest : List ℕ
+  pub same : p ≡ joined before ++ rest
+  pub offset : ℕ
+  pub bad : Bad rest number offset
+  pub at : place ≡ length (joined before) + offset
+
+-- the pool is one that can be read at all: refusals 1 and 2 come first
+abbrev pub Sized : List ℕ → Type 0
+Sized p = (1 ≤ length p) × (length p ≤ 65535)
+
+-- reading, by the division alone
+pub record Reads (p : List ℕ) (room : ℕ) : Type 0 where
+  -- it succeeds exactly if the pool is 1 to 65,535 bytes, divides into records and the table holds them; the count is theirs
+  pub read : (n : ℕ) → (readOf p room ≡ answer 0 n) ↔ (Sized p × ((rs : List (List ℕ)) × Division p rs × (length rs ≡ n) × (n ≤ room)))
+  -- and the entries are the division's
+  pub entries : (rs : List (List ℕ)) (d : Division p rs) → entriesIn (scanOf p) ≡ listed rs (d .whole) 0
+  pub empty : (readOf p room ≡ answer 1 0) ↔ (length p ≡ 0)
+  pub long : (readOf p room ≡ answer 2 0) ↔ (65535 < length p)
+  -- 3, 4 and 5: the earliest bad record decides
+  pub refused : (number place : ℕ) → (3 ≤ number) × (number ≤ 5) → (readOf p room ≡ answer number place) ↔ (Sized p × Earliest p number place)
+  -- 6 is never given
+  pub many : (place : ℕ) → readOf p room ≡ answer 6 place → ⊥
+  pub short : (n : ℕ) → (readOf p room ≡ answer 7 n) ↔ (Sized p × ((rs : List (List ℕ)) × Division p rs × (length rs ≡ n) × (room < n)))

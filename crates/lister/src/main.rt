@@ -1,0 +1,127 @@
+// Lists a pool from standard input: its records, or the one number and place at which it is refused.
+use libc::STDERR_FILENO;
+use libc::STDIN_FILENO;
+use libc::STDOUT_FILENO;
+use pool::Outcome;
+
+mod text;
+
+ghost use Prim.Native.Nat.{_+_, _*_, _≤_, _<_};
+ghost use mathlib.Core.Path.{_≡_};
+ghost use lib.ListN.{length};
+
+// What was read, 0 bytes at the end of the input.
+enum Input {
+    Bytes(usize),
+    Failed,
+}
+
+fn read_more(input: &mut [u8], from: usize) -> Input
+    requires { ⌜ from ≤ length (now input) ⌝ }
+    ensures { λ r. ⌜ length (now (input .exit)) ≡ length (now (input .entry)) ⌝ }
+{
+    let part = &mut input[from..];
+    let got = libc::read(STDIN_FILENO, part);
+    if got < 0 {
+        return Input::Failed;
+    }
+    Input::Bytes(io::count(got, part))
+}
+
+// Reads to the end of the input or of the buffer. A read that fails must not pass for the input's end: what came so far
+// may divide into records and not be the whole pool.
+fn read_input(input: &mut [u8]) -> Input
+    ensures { λ r. ⌜ length (now (input .exit)) ≡ length (now (input .entry)) ⌝ }
+{
+    let mut n: usize = 0;
+    while n < input.len() {
+        let more = read_more(input, n);
+        let Input::Bytes(k) = more else {
+            return Input::Failed;
+        };
+        if k == 0 {
+            return Input::Bytes(n);
+        }
+        if input.len() - n < k {
+            return Input::Failed;
+        }
+        n += k;
+    }
+    Input::Bytes(n)
+}
+
+fn flush(out: &[u8], n: usize) {
+    if n <= out.len() {
+        io::write_all(STDOUT_FILENO, &out[0..n]);
+    }
+}
+
+// Writes out what is there where a further line, of at most 32 bytes, might not fit, and gives the place to go on at.
+fn make_room(out: &[u8], at: usize) -> usize {
+    if at < out.len() {
+        if 64 < out.len() - at {
+            return at;
+        }
+    }
+    flush(out, at);
+    0
+}
+
+// The line of each record of a table that has been filled.
+fn list_records(table: &[u16], count: usize, out: &mut [u8], from: usize) -> usize
+    ensures { λ r. ⌜ length (now (out .exit)) ≡ length (now (out .entry)) ⌝ }
+{
+    let mut at = from;
+    let mut i: usize = 0;
+    let mut left = count;
+    while 0 < left {
+        if table.len() - i < 4 {
+            return at;
+        }
+        at = make_room(out, at);
+        at = text::put_record(out, at, table[i], table[i + 1], table[i + 2], table[i + 3]);
+        i += 4;
+        left -= 1;
+    }
+    at
+}
+
+// Lists a pool into lent memory and to standard output.
+fn list(p: &[u8], table: &mut [u16], out: &mut [u8]) {
+    let outcome = pool::read(p, table);
+    if let Outcome::Records(count) = outcome {
+        let first = text::put_records(out, 0, count as u64);
+        let end = list_records(table, count, out, first);
+        flush(out, end);
+        return;
+    }
+    let end = text::put_refused(
+        out,
+        0,
+        pool::number_of(outcome) as u64,
+        pool::value_of(outcome) as u64,
+    );
+    flush(out, end);
+}
+
+fn run(input: &mut [u8], table: &mut [u16], out: &mut [u8]) {
+    let got = read_input(input);
+    match got {
+        Input::Bytes(n) => {
+            if n <= input.len() {
+                list(&input[0..n], table, out);
+            }
+        }
+        Input::Failed => {
+            io::write_all(STDERR_FILENO, b"lister: standard input cannot be read\n");
+        }
+    }
+}
+
+// One byte more than a pool may have shows that an input is too long; the table has 2,048 entries.
+fn main() {
+    let mut input = [0u8; 65536];
+    let mut table = [0u16; 8192];
+    let mut out = [0u8; 65536];
+    run(&mut input, &mut table, &mut out);
+}

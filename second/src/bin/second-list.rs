@@ -1,0 +1,14 @@
+//! Lists the records of the pool on standard input.
+
+use std::io::{self, Read, Write};
+
+fn main() -> io::Result<()> {
+    let mut pool = Vec::new();
+    // One byte over the limit decides the refusal: input without end is not
+    // read to its end.
+    let bound = second::MAX_POOL_BYTES as u64 + 1;
+    io::stdin().lock().take(bound).read_to_end(&mut pool)?;
+    io::stdout()
+        .lock()
+        .write_all(second::list(&pool).as_bytes())
+}
