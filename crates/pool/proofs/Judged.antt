@@ -13,10 +13,12 @@ use lib.Seq.{sets}
 use types.Run.{OneOf}
 use Rattle.pool.specs.Answer.{Answer, answer, answerOf}
 use Rattle.pool.specs.Reading.{Entry, width, flat, Cause, unmarked, cut, over, causeNumber, Scan, records, refused, scanOf, entriesIn, pick, pickTable, counted, readOf, roomOf, tableAfter}
-use Rattle.pool.specs.Walk.{countFrom}
+use Rattle.pool.specs.Walk.{countFrom, startsOf, ListsIf, Ready}
 use Rattle.pool.specs.declared.Outcome.{Outcome}
 use Rattle.pool.specs.declared.Outcome.the-variants.{Records, Empty, TooLong, NoMark, Cut, LengthOver, TooMany, TableShort}
 use Rattle.pool.proofs.Outcome.{the-type}
+use Rattle.pool.proofs.Steps.{cause-number}
+use Rattle.pool.proofs.Filling.{listed-starts}
 
 pub read-empty : (p : List ℕ) (room : ℕ) → length p ≡ 0 → readOf p room ≡ answer 1 0
 unfolding readOf
@@ -29,12 +31,6 @@ read-long p room h = rw (ne-eqb (length p) 0 (λ (z : length p ≡ 0). omega ari
 pub read-walk : (p : List ℕ) (room : ℕ) → 0 < length p → length p ≤ 65535 → readOf p room ≡ counted room (scanOf p)
 unfolding readOf
 read-walk p room a b = rw (ne-eqb (length p) 0 (λ (z : length p ≡ 0). omega arith), le-ltb 65535 (length p) b)
-
--- no refusal's number is 0
-pub cause-number : (c : Cause) → causeNumber c ≡ 0 → ⊥
-cause-number unmarked e = omega arith
-cause-number cut e = omega arith
-cause-number over e = omega arith
 
 -- a count that a walk answers is its records'
 pub walk-count : (n : ℕ) (s : Scan) → answer 0 n ≡ countFrom 0 s → (s ≡ records (entriesIn s)) × (length (entriesIn s) ≡ n)
@@ -83,6 +79,7 @@ pub record Counted (p : List ℕ) (room n : ℕ) : Type 0 where
   pub short : length p ≤ 65535
   pub scanned : scanOf p ≡ records (entriesIn (scanOf p))
   pub count : length (entriesIn (scanOf p)) ≡ n
+  pub few : n ≤ 8192
   pub fits : n ≤ room
 
 pub read-counted : (p : List ℕ) (room n : ℕ) → answer 0 n ≡ readOf p room → Counted p room n
@@ -99,6 +96,7 @@ read-counted p room n e =
         let six = picked (ltb 8192 l) (answer 6 0) (pick (ltb room l) (answer 7 l) (answer 0 l)) n (λ (z : 6 ≡ 0). omega arith) f in
         let seven = picked (ltb room l) (answer 7 l) (answer 0 l) n (λ (z : 7 ≡ 0). omega arith) (six .1) in
         let same : n ≡ l = ap (λ (y : Answer). y .value) (seven .1) in
+        let few-left : l ≤ 8192 = ltb-false 8192 l (six .0) in
         let room-left : l ≤ room = ltb-false room l (seven .0) in
         let found : entriesIn (scanOf p) ≡ es = ap entriesIn x in
         record {
@@ -106,11 +104,34 @@ read-counted p room n e =
           short = b;
           scanned = x ∙ ap records (sym found);
           count = ap length found ∙ sym same;
+          few = omega arith;
           fits = omega arith;
         }
       where
         lt-of-le-ne : (length p ≡ 0 → ⊥) → 0 < length p
         lt-of-le-ne z = omega arith
+
+-- a pool that is read is ready to be filled from its starts
+pub ready : (p before starts table : List ℕ) (n : ℕ) → answer 0 n ≡ readOf p (roomOf table) → length before ≡ 8192 → length starts ≡ length before
+    → ListsIf (readOf p (roomOf table) .number) (scanOf p) before starts → Ready p starts n table
+ready p before starts table n e b l f =
+    let k = read-counted p (roomOf table) n e in
+    let es = entriesIn (scanOf p) in
+    let laid : starts ≡ sets before 0 (startsOf es) = f (sym (ap (λ (a : Answer). a .number) e)) es (k .scanned) (omega (arith, k .count, k .few)) in
+    record {
+      short = omega (arith, k .short);
+      scanned = k .scanned;
+      counted = k .count;
+      room = omega (arith, k .fits);
+      enough = omega (arith, k .few);
+      listed = listed-starts before starts es n (k .count) (omega (arith, k .few)) laid;
+    }
+
+-- a refusal lists nothing
+pub unlisted : (number : ℕ) (s : Scan) (before after : List ℕ) (a : Answer) → a ≡ answer (suc number) 0 → ListsIf (a .number) s before after
+unlisted number s before after a e z =
+    let n : a .number ≡ suc number = ap (λ (x : Answer). x .number) e in
+    absurd (omega arith)
 
 -- the table where a pool is read, and where it is not
 pub table-read : (p table : List ℕ) (n : ℕ) → answer 0 n ≡ readOf p (roomOf table) → tableAfter p table ≡ sets table 0 (flat (entriesIn (scanOf p)))

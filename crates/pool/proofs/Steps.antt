@@ -4,6 +4,7 @@ use mathlib.Core.List.{List, [], _∷_, _++_}
 use Prim.Native.Nat.{ℕ, zero, suc, _+_, _*_, _≤_, _<_}
 use native.Mathlib.Omega.{arith}
 use borrow.Author.Tests.{lt-ltb, le-ltb}
+use native.Mathlib.Decide.{decLt}
 use lib.ListN.{length}
 use lib.Seq.{sets}
 use Rattle.records.specs.Extents.{extentOf}
@@ -12,7 +13,7 @@ use Rattle.records.specs.declared.Extent.the-variants.{Ends, NoMark, Cut, Lengt
 use Rattle.records.proofs.Range.{extent-ends}
 use Rattle.pool.specs.Answer.{Answer, answer}
 use Rattle.pool.specs.Reading.{Entry, width, numbers, flat, entryAt, Cause, unmarked, cut, over, causeNumber, Scan, records, refused, onto, turn, scanFrom}
-use Rattle.pool.specs.Walk.{countFrom, endOf}
+use Rattle.pool.specs.Walk.{countFrom}
 
 pub scan-turn : (t : ℕ) (p : List ℕ) (at : ℕ) → at < length p → scanFrom (suc t) p at ≡ turn (scanFrom t p) p at (extentOf p at)
 unfolding scanFrom
@@ -22,6 +23,12 @@ pub scan-end : (t : ℕ) (p : List ℕ) (at : ℕ) → length p ≤ at → scanF
 unfolding scanFrom
 scan-end zero p at h = refl
 scan-end (suc t) p at h = rw (le-ltb at (length p) h)
+
+-- no refusal's number is 0
+pub cause-number : (c : Cause) → causeNumber c ≡ 0 → ⊥
+cause-number unmarked e = omega arith
+cause-number cut e = omega arith
+cause-number over e = omega arith
 
 count-onto : (n : ℕ) (e : Entry) (s : Scan) → countFrom n (onto e s) ≡ countFrom (n + 1) s
 count-onto n e (records es) = ap (answer 0) (omega arith)
@@ -68,11 +75,13 @@ pub record Remaining (p : List ℕ) (at : ℕ) (rs : List Entry) : Type 0 where
 
 -- its next record, and what is left behind it
 pub record Next (p : List ℕ) (at : ℕ) (rs : List Entry) : Type 0 where
+  pub end : ℕ
+  pub ends : extentOf p at ≡ Ends end
   pub left : List Entry
-  pub first : rs ≡ entryAt p at (endOf p at) ∷ left
-  pub later : at < endOf p at
-  pub within : endOf p at ≤ length p
-  pub rest : Remaining p (endOf p at) left
+  pub first : rs ≡ entryAt p at end ∷ left
+  pub later : at < end
+  pub within : end ≤ length p
+  pub rest : Remaining p end left
 
 pub next-of : (p : List ℕ) (at : ℕ) (rs : List Entry) → at < length p → Remaining p at rs → Next p at rs
 next-of p at rs h m = by-turns (m .turns) (m .enough) (m .reads)
@@ -80,13 +89,14 @@ next-of p at rs h m = by-turns (m .turns) (m .enough) (m .reads)
     by-scan : (t e : ℕ) → length p ≤ at + suc t → extentOf p at ≡ Ends e → (s : Scan) → scanFrom t p e ≡ s → onto (entryAt p at e) s ≡ records rs → Next p at rs
     by-scan t e l x (records es) y g =
         let r = extent-ends p at e x in
-        let end : endOf p at ≡ e = sym (r .2) in
         record {
+          end = e;
+          ends = x;
           left = es;
-          first = rw end cc;
-          later = rw end (omega arith);
-          within = rw end (r .1);
-          rest = rw end (record { turns = t; enough = omega arith; reads = y });
+          first = cc;
+          later = omega arith;
+          within = r .1;
+          rest = record { turns = t; enough = omega arith; reads = y };
         }
     by-scan t e l x (refused k q) y g = let z : _≡_ {A = ℕ} 0 1 = cc in absurd (omega arith)
 
@@ -102,6 +112,33 @@ next-of p at rs h m = by-turns (m .turns) (m .enough) (m .reads)
     by-turns : (t : ℕ) → length p ≤ at + t → scanFrom t p at ≡ records rs → Next p at rs
     by-turns zero l e = absurd (omega arith)
     by-turns (suc t) l e = by-extent t l (extentOf p at) refl (sym (scan-turn t p at h) ∙ e)
+
+-- at the end nothing is left, and only there
+pub none-left : (p : List ℕ) (at : ℕ) (rs : List Entry) → length p ≤ at → Remaining p at rs → rs ≡ []
+none-left p at rs h m =
+    let e : records rs ≡ records [] = sym (m .reads) ∙ scan-end (m .turns) p at h in
+    cc
+
+pub at-end : (p : List ℕ) (at : ℕ) → at ≤ length p → Remaining p at [] → at ≡ length p
+at-end p at h m = go (decLt at (length p))
+  where
+    go : Dec (at < length p) → at ≡ length p
+    go (yes l) = let x = next-of p at [] l m in let z : _≡_ {A = ℕ} 0 1 = cc (x .first) in absurd (omega arith)
+    go (no l) = omega arith
+
+-- what is left begins where the walk stands
+pub head-start : (p : List ℕ) (at : ℕ) (e : Entry) (es : List Entry) → Remaining p at (e ∷ es) → e .start ≡ at
+head-start p at e es m = go (decLt at (length p))
+  where
+    go : Dec (at < length p) → e .start ≡ at
+    go (yes l) =
+        let x = next-of p at (e ∷ es) l m in
+        let same : e ≡ entryAt p at (x .end) = cc (x .first) in
+        ap (λ (y : Entry). y .start) same
+    go (no l) =
+        let none : e ∷ es ≡ [] = none-left p at (e ∷ es) (omega arith) m in
+        let z : _≡_ {A = ℕ} 0 1 = cc in
+        absurd (omega arith)
 
 -- an entry and those behind it, laid over a table
 pub sets-entry : (table : List ℕ) (n : ℕ) (e : Entry) (es : List Entry)

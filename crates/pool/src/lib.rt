@@ -2,11 +2,11 @@
 use records::Extent;
 ghost use mathlib.Core.Path.{_≡_};
 ghost use Prim.Native.Nat.{_+_, _*_, _≤_, _<_};
-ghost use lib.ListN.{length};
+ghost use lib.ListN.{length, set};
 ghost use lib.Seq.{sets};
 ghost use Rattle.pool.specs.Answer.{answerOf};
-ghost use Rattle.pool.specs.Reading.{width, numbers, flat, entryAt, records, scanOf, entriesIn, readOf, roomOf, tableAfter};
-ghost use Rattle.pool.specs.Walk.{countFrom, endOf};
+ghost use Rattle.pool.specs.Reading.{width, numbers, flat, entryAt, scanOf, entriesIn, readOf, roomOf, tableAfter};
+ghost use Rattle.pool.specs.Walk.{countFrom, Lists, ListsIf, endIn, Ready};
 
 // What reading answers: the count of records, or why the pool is refused and where.
 pub enum Outcome {
@@ -23,9 +23,20 @@ pub enum Outcome {
 // The numbers of an entry in a table of numbers: start, length, kind, ID.
 pub const WIDTH: usize = 4;
 
-// Walks over the records: their count, or the earliest bad one.
-fn scan(p: &[u8]) -> Outcome
-    ensures { λ r. ⌜ answerOf r ≡ countFrom 0 (scanOf (now (p .entry))) ⌝ }
+// Puts a number into a list, where the list reaches so far.
+fn note(list: &mut [u16], n: usize, x: u16)
+    ensures { λ _. ⌜ now (list .exit) ≡ set (now (list .entry)) n x ⌝ }
+{
+    if n < list.len() {
+        list[n] = x;
+    }
+}
+
+// Walks over the records: their count, or the earliest bad one. It lists where each record starts, so that the table can
+// be filled without a second walk.
+fn scan(p: &[u8], starts: &mut [u16]) -> Outcome
+    requires { ⌜ length (now p) < 65536 ⌝ }
+    ensures { λ r. ⌜ (answerOf r ≡ countFrom 0 (scanOf (now (p .entry)))) × Lists (scanOf (now (p .entry))) (now (starts .entry)) (now (starts .exit)) ⌝ }
 {
     let mut at: usize = 0;
     let mut n: usize = 0;
@@ -33,6 +44,7 @@ fn scan(p: &[u8]) -> Outcome
         let extent = records::record_extent(p, at);
         match extent {
             Extent::Ends(end) => {
+                note(starts, n, at as u16);
                 at = end;
                 n += 1;
             }
@@ -50,9 +62,9 @@ fn scan(p: &[u8]) -> Outcome
     Outcome::Records(n)
 }
 
-// Whether a pool is read, given how many entries a table has.
-pub fn judge(p: &[u8], room: usize) -> Outcome
-    ensures { λ r. ⌜ answerOf r ≡ readOf (now (p .entry)) room ⌝ }
+// Whether a pool is read, given how many entries a table has; where it is, the records' starts are listed.
+fn judge(p: &[u8], room: usize, starts: &mut [u16]) -> Outcome
+    ensures { λ r. ⌜ (answerOf r ≡ readOf (now (p .entry)) room) × (ListsIf (readOf (now (p .entry)) room .number) (scanOf (now (p .entry))) (now (starts .entry)) (now (starts .exit))) ⌝ }
 {
     if p.len() == 0 {
         return Outcome::Empty;
@@ -60,7 +72,7 @@ pub fn judge(p: &[u8], room: usize) -> Outcome
     if 65535 < p.len() {
         return Outcome::TooLong;
     }
-    let walked = scan(p);
+    let walked = scan(p, starts);
     match walked {
         Outcome::Records(count) => {
             if 8192 < count {
@@ -87,29 +99,39 @@ fn put_entry(table: &mut [u16], n: usize, start: u16, size: u16, kind: u16, id: 
     table[i + 3] = id;
 }
 
-// Writes entry n, of the record at a place, and gives the place behind it.
-fn put_record(p: &[u8], table: &mut [u16], n: usize, at: usize) -> usize
-    requires { ⌜ (n * width + width ≤ length (now table)) × (at ≤ endOf (now p) at) × (endOf (now p) at < 65536) ⌝ }
-    ensures { λ r. ⌜ (r ≡ endOf (now (p .entry)) at) × (now (table .exit) ≡ sets (now (table .entry)) (n * width) (numbers (entryAt (now (p .entry)) at (endOf (now (p .entry)) at)))) ⌝ }
+// Writes entry n, of the record from a place up to another.
+fn put_record(p: &[u8], table: &mut [u16], n: usize, at: usize, end: usize)
+    requires { ⌜ (n * width + width ≤ length (now table)) × (at ≤ end) × (end < 65536) ⌝ }
+    ensures { λ _. ⌜ now (table .exit) ≡ sets (now (table .entry)) (n * width) (numbers (entryAt (now (p .entry)) at end)) ⌝ }
 {
     let start = at as u16;
-    let outline = records::view::outline(p, start);
-    let kind = outline.kind;
-    let end = outline.end;
+    let kind = records::view::kind(p, start);
     let id = records::view::id(p, start);
     put_entry(table, n, start, (end - at) as u16, kind, id);
-    end
+}
+
+// Where record n ends: where the next one starts, or the last one at the pool's end.
+fn end_of(starts: &[u16], n: usize, count: usize, last: usize) -> usize
+    requires { ⌜ (count ≤ length (now starts)) × (n < count) ⌝ }
+    ensures { λ r. ⌜ r ≡ endIn (now (starts .entry)) n count last ⌝ }
+{
+    if n + 1 < count {
+        return starts[n + 1] as usize;
+    }
+    last
 }
 
 // Fills the table from a pool that has been judged.
-fn fill(p: &[u8], table: &mut [u16])
-    requires { ⌜ (length (now p) < 65536) × (scanOf (now p) ≡ records (entriesIn (scanOf (now p)))) × (length (entriesIn (scanOf (now p))) * width ≤ length (now table)) ⌝ }
+fn fill(p: &[u8], starts: &[u16], count: usize, table: &mut [u16])
+    requires { ⌜ Ready (now p) (now starts) count (now table) ⌝ }
     ensures { λ _. ⌜ now (table .exit) ≡ sets (now (table .entry)) 0 (flat (entriesIn (scanOf (now (p .entry))))) ⌝ }
 {
     let mut at: usize = 0;
     let mut n: usize = 0;
-    while at < p.len() {
-        at = put_record(p, table, n, at);
+    while n < count {
+        let end = end_of(starts, n, count, p.len());
+        put_record(p, table, n, at, end);
+        at = end;
         n += 1;
     }
 }
@@ -118,9 +140,10 @@ fn fill(p: &[u8], table: &mut [u16])
 pub fn read(p: &[u8], table: &mut [u16]) -> Outcome
     ensures { λ r. ⌜ (answerOf r ≡ readOf (now (p .entry)) (roomOf (now (table .entry)))) × (now (table .exit) ≡ tableAfter (now (p .entry)) (now (table .entry))) ⌝ }
 {
-    let outcome = judge(p, table.len() / WIDTH);
-    if let Outcome::Records(_) = outcome {
-        fill(p, table);
+    let mut starts = [0u16; 8192];
+    let outcome = judge(p, table.len() / WIDTH, &mut starts);
+    if let Outcome::Records(count) = outcome {
+        fill(p, &starts, count, table);
         return outcome;
     }
     outcome

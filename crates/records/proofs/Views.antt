@@ -8,14 +8,10 @@ use lib.IntN.{ℤ}
 use lib.Dec.{eqb}
 use lib.ListN.{length, getD, List·getD-eq-default}
 use Rattle.wire.specs.Bytes.{numberAt, signedOf}
-use Rattle.records.specs.Layout.{layout, kindNumber, markNumber, mark, markOf, three}
-use Rattle.records.specs.Fields.{textAt, bytesAt, behindAll, behindMark, outlineOf, fieldAt, deviceOf, elementOf, entryOf, processDataOf, propertyOf, presentationOf}
-use Rattle.records.specs.declared.Kind.{Kind}
-use Rattle.records.specs.declared.Kind.the-variants.{Dvc, Det, Dpd, Dpt, Dvp}
-use Rattle.records.specs.declared.Mark.{Mark}
-use Rattle.records.specs.declared.Mark.the-variants.{Of, Unknown}
+use Rattle.records.specs.Layout.{layout, markNumber, mark, markOf, three}
+use Rattle.records.specs.Fields.{textAt, bytesAt, fieldAt, deviceOf, elementOf, entryOf, processDataOf, propertyOf, presentationOf}
+use Rattle.records.specs.declared.Mark.the-variants.{Unknown}
 use Rattle.records.specs.declared.Span.{Span}
-use Rattle.records.specs.declared.Outline.{Outline}
 use Rattle.records.specs.declared.Device.{Device}
 use Rattle.records.specs.declared.DeviceElement.{DeviceElement}
 use Rattle.records.specs.declared.ProcessData.{ProcessData}
@@ -57,35 +53,6 @@ module _ (p : List ℕ) (at : ℕ) where
   unfolding presentationOf fieldAt layout
   presentation-view u s k o ho hs hk hu = cc
 
-  -- the place behind the last field
-  pub dvc-behind : (d v s e : Span) → d ≡ textAt p (at + 3 + 2) → v ≡ textAt p (d .to) → s ≡ textAt p (v .to + 8) → e ≡ textAt p (s .to + 7 + 7)
-      → e .to ≡ behindAll (layout Dvc) p (at + 3)
-  unfolding layout
-  dvc-behind d v s e hd hv hs he = cc
-
-  pub det-behind : (d : Span) (n : ℕ) → d ≡ textAt p (at + 3 + 2 + 1) → n ≡ numberAt 2 p (d .to + 2 + 2) → d .to + 2 + 2 + 2 + 2 * n ≡ behindAll (layout Det) p (at + 3)
-  unfolding layout
-  det-behind d n hd hn = cc
-
-  pub dpd-behind : (d : Span) → d ≡ textAt p (at + 3 + 2 + 2 + 1 + 1) → d .to + 2 ≡ behindAll (layout Dpd) p (at + 3)
-  unfolding layout
-  dpd-behind d hd = cc
-
-  pub dpt-behind : (d : Span) → d ≡ textAt p (at + 3 + 2 + 2 + 4) → d .to + 2 ≡ behindAll (layout Dpt) p (at + 3)
-  unfolding layout
-  dpt-behind d hd = cc
-
-  pub dvp-behind : (u : Span) → u ≡ textAt p (at + 3 + 2 + 4 + 4 + 1) → u .to ≡ behindAll (layout Dvp) p (at + 3)
-  unfolding layout
-  dvp-behind u hu = cc
-
-  pub outline-view : (m : Mark) (k j : Kind) (e : ℕ) → m ≡ Of k → k ≡ j → e ≡ behindAll (layout j) p (at + 3)
-      → _≡_ {A = Outline} (record { kind = kindNumber j; end = e }) (outlineOf m p at)
-  unfolding outlineOf
-  outline-view m k j e hm hk he =
-      ap (λ (x : ℕ). record { kind = kindNumber j; end = x }) he
-      ∙ ap (λ (x : Mark). record { kind = markNumber x; end = behindMark x p at }) (ap Of (sym hk) ∙ sym hm)
-
 -- where fewer than three bytes are left, no mark stands: past the end is 0, which is in none
 unmarked : (a b : ℕ) → markOf (a ∷ b ∷ 0 ∷ []) ≡ Unknown
 unfolding markOf mark
@@ -96,9 +63,8 @@ unmarked a b = rw (never (eqb a 68) (eqb b 86), never (eqb a 68) (eqb b 69), nev
     never true false = refl
     never false y = refl
 
-pub outline-short : (p : List ℕ) (at : ℕ) → length p < at + 3 → _≡_ {A = Outline} (record { kind = 0; end = at + 3 }) (outlineOf (markOf (three p at)) p at)
-unfolding outlineOf
-outline-short p at h =
+pub kind-short : (p : List ℕ) (at : ℕ) → length p < at + 3 → markNumber (markOf (three p at)) ≡ 0
+kind-short p at h =
     let z : getD p (at + 2) 0 ≡ 0 = List·getD-eq-default p 0 (omega arith) in
     let m : markOf (three p at) ≡ Unknown = rw z (unmarked (getD p at 0) (getD p (at + 1) 0)) in
-    ap (λ (x : Mark). outlineOf x p at) (sym m)
+    ap markNumber m

@@ -31,12 +31,6 @@ pub struct Span {
     pub to: usize,
 }
 
-// A record's kind, as its number, and the place behind it.
-pub struct Outline {
-    pub kind: u16,
-    pub end: usize,
-}
-
 pub struct Device {
     pub designator: Span,
     pub version: Span,
@@ -80,7 +74,7 @@ pub struct ValuePresentation {
 
 ghost use mathlib.Core.Path.{_≡_};
 ghost use mathlib.Core.List.{[], _∷_};
-ghost use Rattle.records.specs.Layout.{markOf, three};
+ghost use Rattle.records.specs.Layout.{markNumber, markOf, three};
 ghost use Rattle.records.specs.Extents.{extentOf};
 
 // The kind by the three letters of its mark.
@@ -114,6 +108,21 @@ fn mark_of(a: u8, b: u8, c: u8) -> Mark
         }
     }
     Mark::Unknown
+}
+
+fn mark_number(m: Mark) -> u16
+    ensures { λ r. ⌜ r ≡ markNumber m ⌝ }
+{
+    match m {
+        Mark::Unknown => 0,
+        Mark::Of(k) => match k {
+            Kind::Dvc => 1,
+            Kind::Det => 2,
+            Kind::Dpd => 3,
+            Kind::Dpt => 4,
+            Kind::Dvp => 5,
+        },
+    }
 }
 
 // Where the record that starts at a place ends.

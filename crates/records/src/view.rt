@@ -2,17 +2,15 @@
 // that is not whole, bytes past the pool's end read as 0.
 use super::Device;
 use super::DeviceElement;
-use super::Kind;
 use super::Mark;
-use super::Outline;
 use super::ProcessData;
 use super::Property;
 use super::Span;
 use super::ValuePresentation;
 ghost use mathlib.Core.Path.{_≡_};
 ghost use Prim.Native.Nat.{_+_, _≤_, _<_};
-ghost use Rattle.records.specs.Layout.{markOf, three};
-ghost use Rattle.records.specs.Fields.{textAt, outlineOf, idOf, deviceOf, elementOf, entryOf, processDataOf, propertyOf, presentationOf};
+ghost use Rattle.records.specs.Layout.{markNumber, markOf, three};
+ghost use Rattle.records.specs.Fields.{textAt, idOf, deviceOf, elementOf, entryOf, processDataOf, propertyOf, presentationOf};
 
 pub fn mark(p: &[u8], at: u16) -> Mark
     ensures { λ r. ⌜ r ≡ markOf (three (now (p .entry)) at) ⌝ }
@@ -23,6 +21,17 @@ pub fn mark(p: &[u8], at: u16) -> Mark
         wire::read_u8(p, start + 1),
         wire::read_u8(p, start + 2),
     )
+}
+
+// The number of the record's kind, 0 where no mark stands.
+pub fn kind(p: &[u8], at: u16) -> u16
+    ensures { λ r. ⌜ r ≡ markNumber (markOf (three (now (p .entry)) at)) ⌝ }
+{
+    let start = at as usize;
+    if p.len() < start + 3 {
+        return 0;
+    }
+    super::mark_number(super::mark_of(p[start], p[start + 1], p[start + 2]))
 }
 
 // The object ID, in a record of any kind.
@@ -164,72 +173,4 @@ pub fn value_presentation(p: &[u8], at: u16) -> ValuePresentation
         decimals,
         unit,
     }
-}
-
-// Kind and end of a record whose mark is known. One match gives both, which keeps reading fast.
-fn marked_outline(p: &[u8], m: Mark, at: u16) -> Outline
-    ensures { λ r. ⌜ r ≡ outlineOf m (now (p .entry)) at ⌝ }
-{
-    let id_at = at as usize + 3;
-    match m {
-        Mark::Unknown => Outline {
-            kind: 0,
-            end: id_at,
-        },
-        Mark::Of(k) => match k {
-            Kind::Dvc => {
-                let designator = text(p, id_at + 2);
-                let version = text(p, designator.to);
-                let serial = text(p, version.to + 8);
-                let extended = text(p, serial.to + 7 + 7);
-                Outline {
-                    kind: 1,
-                    end: extended.to,
-                }
-            }
-            Kind::Det => {
-                let designator = text(p, id_at + 2 + 1);
-                let count_at = designator.to + 2 + 2;
-                Outline {
-                    kind: 2,
-                    end: count_at + 2 + 2 * wire::read_u16(p, count_at) as usize,
-                }
-            }
-            Kind::Dpd => {
-                let designator = text(p, id_at + 2 + 2 + 1 + 1);
-                Outline {
-                    kind: 3,
-                    end: designator.to + 2,
-                }
-            }
-            Kind::Dpt => {
-                let designator = text(p, id_at + 2 + 2 + 4);
-                Outline {
-                    kind: 4,
-                    end: designator.to + 2,
-                }
-            }
-            Kind::Dvp => {
-                let unit = text(p, id_at + 2 + 4 + 4 + 1);
-                Outline {
-                    kind: 5,
-                    end: unit.to,
-                }
-            }
-        },
-    }
-}
-
-// The kind of a record at any place, and the place behind its last field.
-pub fn outline(p: &[u8], at: u16) -> Outline
-    ensures { λ r. ⌜ r ≡ outlineOf (markOf (three (now (p .entry)) at)) (now (p .entry)) at ⌝ }
-{
-    let start = at as usize;
-    if p.len() < start + 3 {
-        return Outline {
-            kind: 0,
-            end: start + 3,
-        };
-    }
-    marked_outline(p, super::mark_of(p[start], p[start + 1], p[start + 2]), at)
 }

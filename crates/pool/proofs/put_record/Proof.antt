@@ -1,9 +1,9 @@
 -- `pool::put_record` meets its contract. Assumes nothing.
-use mathlib.Core.Path.{_≡_, ap, _∙_}
+use mathlib.Core.Path.{_≡_, _∙_}
 use Prim.Native.Nat.{_*_}
 use native.Mathlib.Omega.{arith}
 use Rattle.pool.specs.Reading.{width}
-use Rattle.pool.proofs.Filling.{outline-at, entry-parts}
+use Rattle.pool.proofs.Filling.{entry-parts}
 use borrow.Author.Needs.{needs}
 use Rattle.pool.proofs.put_record.Statement.{statement}
 use Rattle.pool.proofs.put_record.Tie as tie
@@ -11,17 +11,17 @@ use Rattle.pool.proofs.put_record.Tie as tie
 cast-start : tie.Need-cast-start
 cast-start c = search needs
 
-outline-requires : tie.Need-outline-requires
-outline-requires c κs = search needs
+kind-requires : tie.Need-kind-requires
+kind-requires c κs = search needs
 
 id-requires : tie.Need-id-requires
 id-requires c κs = search needs
 
 sub-put-entry : tie.Need-sub-put-entry
-sub-put-entry c = omega (arith, c .before .before .before .before .before .pre, outline-at (c .before .before .before .before .before .args .p .now) (c .before .before .before .before .before .args .at) _ (c .before .before .outline .ensures))
+sub-put-entry c = search needs
 
 cast-put-entry : tie.Need-cast-put-entry
-cast-put-entry c = omega (arith, c .before .before .before .before .before .pre, outline-at (c .before .before .before .before .before .args .p .now) (c .before .before .before .before .before .args .at) _ (c .before .before .outline .ensures))
+cast-put-entry c = search needs
 
 put-entry-requires : tie.Need-put-entry-requires
 put-entry-requires c κs = search needs
@@ -32,15 +32,14 @@ same-length c = search needs
 returns : tie.Need-returns
 returns c =
     let a = c .before .before .before .before .before .before .before .before .args in
-    let o = outline-at (a .p .now) (a .at) _ (c .before .before .before .before .before .outline .ensures) in
-    (o .1, c .before .before .put-entry .ensures ∙ entry-parts (a .table .now) (a .p .now) (a .n * width) (a .at) _ _ _ (o .0) (o .1) (c .before .before .before .before .id .ensures))
+    c .before .before .put-entry .ensures ∙ entry-parts (a .table .now) (a .p .now) (a .n * width) (a .at) (a .end) _ _ (c .before .before .before .before .before .kind .ensures) (c .before .before .before .before .id .ensures)
 
 pub put-record-spec : {M : Type 1} → statement M
 put-record-spec =
     tie.close
     (tie.spec
     cast-start
-    outline-requires
+    kind-requires
     id-requires
     sub-put-entry
     cast-put-entry
