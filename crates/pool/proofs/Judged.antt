@@ -13,7 +13,7 @@ use lib.Seq.{sets}
 use types.Run.{OneOf}
 use Rattle.pool.specs.Answer.{Answer, answer, answerOf}
 use Rattle.pool.specs.Reading.{Entry, width, flat, Cause, unmarked, cut, over, causeNumber, Scan, records, refused, scanOf, entriesIn, pick, pickTable, counted, readOf, roomOf, tableAfter}
-use Rattle.pool.specs.Walk.{countFrom, startsOf, ListsIf, Ready}
+use Rattle.pool.specs.Walk.{countFrom, startsOf, ListsIf, Ready, Holds}
 use Rattle.pool.specs.declared.Outcome.{Outcome}
 use Rattle.pool.specs.declared.Outcome.the-variants.{Records, Empty, TooLong, NoMark, Cut, LengthOver, TooMany, TableShort}
 use Rattle.pool.proofs.Outcome.{the-type}
@@ -112,19 +112,20 @@ read-counted p room n e =
         lt-of-le-ne z = omega arith
 
 -- a pool that is read is ready to be filled from its starts
-pub ready : (p before starts table : List ℕ) (n : ℕ) → answer 0 n ≡ readOf p (roomOf table) → length before ≡ 8192 → length starts ≡ length before
+pub ready : (p before starts table : List ℕ) (n : ℕ) → answer 0 n ≡ readOf p (roomOf table) → Holds (scanOf p) (length before) → length starts ≡ length before
     → ListsIf (readOf p (roomOf table) .number) (scanOf p) before starts → Ready p starts n table
-ready p before starts table n e b l f =
+ready p before starts table n e holds l f =
     let k = read-counted p (roomOf table) n e in
     let es = entriesIn (scanOf p) in
-    let laid : starts ≡ sets before 0 (startsOf es) = f (sym (ap (λ (a : Answer). a .number) e)) es (k .scanned) (omega (arith, k .count, k .few)) in
+    let room : length es ≤ length before = holds es (k .scanned) (omega (arith, k .count, k .few)) in
+    let laid : starts ≡ sets before 0 (startsOf es) = f (sym (ap (λ (a : Answer). a .number) e)) es (k .scanned) room in
     record {
       short = omega (arith, k .short);
       scanned = k .scanned;
       counted = k .count;
       room = omega (arith, k .fits);
-      enough = omega (arith, k .few);
-      listed = listed-starts before starts es n (k .count) (omega (arith, k .few)) laid;
+      enough = omega (arith, k .count);
+      listed = listed-starts before starts es n (k .count) (omega (arith, k .count)) laid;
     }
 
 -- a refusal lists nothing

@@ -1,5 +1,5 @@
 -- The walk over a pool's records, turn by turn. Assumes nothing.
-use mathlib.Core.Path.{_≡_, refl, sym, ap, _∙_}
+use mathlib.Core.Path.{_≡_, refl, sym, ap, subst, _∙_}
 use mathlib.Core.List.{List, [], _∷_, _++_}
 use Prim.Native.Nat.{ℕ, zero, suc, _+_, _*_, _≤_, _<_}
 use native.Mathlib.Omega.{arith}
@@ -12,7 +12,7 @@ use Rattle.records.specs.declared.Extent.{Extent}
 use Rattle.records.specs.declared.Extent.the-variants.{Ends, NoMark, Cut, LengthOver}
 use Rattle.records.proofs.Range.{extent-ends}
 use Rattle.pool.specs.Answer.{Answer, answer}
-use Rattle.pool.specs.Reading.{Entry, width, numbers, flat, entryAt, Cause, unmarked, cut, over, causeNumber, Scan, records, refused, onto, turn, scanFrom}
+use Rattle.pool.specs.Reading.{Entry, width, numbers, flat, entryAt, Cause, unmarked, cut, over, causeNumber, Scan, records, refused, onto, turn, scanFrom, scanOf}
 use Rattle.pool.specs.Walk.{countFrom}
 
 pub scan-turn : (t : ℕ) (p : List ℕ) (at : ℕ) → at < length p → scanFrom (suc t) p at ≡ turn (scanFrom t p) p at (extentOf p at)
@@ -79,7 +79,7 @@ pub record Next (p : List ℕ) (at : ℕ) (rs : List Entry) : Type 0 where
   pub ends : extentOf p at ≡ Ends end
   pub left : List Entry
   pub first : rs ≡ entryAt p at end ∷ left
-  pub later : at < end
+  pub later : at + 3 ≤ end
   pub within : end ≤ length p
   pub rest : Remaining p end left
 
@@ -94,7 +94,7 @@ next-of p at rs h m = by-turns (m .turns) (m .enough) (m .reads)
           ends = x;
           left = es;
           first = cc;
-          later = omega arith;
+          later = r .0;
           within = r .1;
           rest = record { turns = t; enough = omega arith; reads = y };
         }
@@ -146,3 +146,23 @@ pub sets-entry : (table : List ℕ) (n : ℕ) (e : Entry) (es : List Entry)
 sets-entry table n e es =
     let z : suc (suc (suc (suc (n * width)))) ≡ (n + 1) * width = omega arith in
     ap (λ (i : ℕ). sets (sets table (n * width) (numbers e)) i (flat es)) z
+
+-- a record takes at least three bytes, so a pool has at most a third as many records
+pub few-left : (p : List ℕ) (rs : List Entry) (at : ℕ) → at ≤ length p → Remaining p at rs → at + 3 * length rs ≤ length p
+few-left p [] at w m = omega arith
+few-left p (e ∷ es) at w m = go (decLt at (length p)) (few-left p es)
+  where
+    go : Dec (at < length p) → ((next : ℕ) → next ≤ length p → Remaining p next es → next + 3 * length es ≤ length p) → at + 3 * length (e ∷ es) ≤ length p
+    go (yes l) rest =
+        let x = next-of p at (e ∷ es) l m in
+        let same : x .left ≡ es = cc (x .first) in
+        let r = rest (x .end) (x .within) (subst (Remaining p (x .end)) same (x .rest)) in
+        omega (arith, x .later)
+    go (no l) rest =
+        let none : e ∷ es ≡ [] = none-left p at (e ∷ es) (omega arith) m in
+        let z : _≡_ {A = ℕ} 0 1 = cc in
+        absurd (omega arith)
+
+pub few-records : (p : List ℕ) (es : List Entry) → scanOf p ≡ records es → 3 * length es ≤ length p
+unfolding scanOf
+few-records p es e = omega (arith, few-left p es 0 (omega arith) (record { turns = length p; enough = omega arith; reads = e }))

@@ -37,3 +37,7 @@ pub record Ready (p starts : List ℕ) (count : ℕ) (table : List ℕ) : Type 0
   pub room : count * width ≤ length table
   pub enough : count ≤ length starts
   pub listed : take count starts ≡ startsOf (entriesIn (scanOf p))
+
+-- a list of so many numbers holds the starts of a pool's records, as far as these are not too many
+abbrev pub Holds : Scan → ℕ → Type 0
+Holds s room = (es : List Entry) → s ≡ records es → length es ≤ 8192 → length es ≤ room

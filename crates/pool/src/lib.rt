@@ -6,7 +6,7 @@ ghost use lib.ListN.{length, set};
 ghost use lib.Seq.{sets};
 ghost use Rattle.pool.specs.Answer.{answerOf};
 ghost use Rattle.pool.specs.Reading.{width, numbers, flat, entryAt, scanOf, entriesIn, readOf, roomOf, tableAfter};
-ghost use Rattle.pool.specs.Walk.{countFrom, Lists, ListsIf, endIn, Ready};
+ghost use Rattle.pool.specs.Walk.{countFrom, Lists, ListsIf, endIn, Ready, Holds};
 
 // What reading answers: the count of records, or why the pool is refused and where.
 pub enum Outcome {
@@ -136,17 +136,44 @@ fn fill(p: &[u8], starts: &[u16], count: usize, table: &mut [u16])
     }
 }
 
-// Reads a pool: judges it, and fills the table only where it is read.
-pub fn read(p: &[u8], table: &mut [u16]) -> Outcome
+// Reads a pool by a list that holds its records' starts: judges it, and fills the table only where it is read.
+fn read_by(p: &[u8], table: &mut [u16], starts: &mut [u16]) -> Outcome
+    requires { ⌜ Holds (scanOf (now p)) (length (now starts)) ⌝ }
     ensures { λ r. ⌜ (answerOf r ≡ readOf (now (p .entry)) (roomOf (now (table .entry)))) × (now (table .exit) ≡ tableAfter (now (p .entry)) (now (table .entry))) ⌝ }
 {
-    let mut starts = [0u16; 8192];
-    let outcome = judge(p, table.len() / WIDTH, &mut starts);
+    let outcome = judge(p, table.len() / WIDTH, starts);
     if let Outcome::Records(count) = outcome {
-        fill(p, &starts, count, table);
+        fill(p, starts, count, table);
         return outcome;
     }
     outcome
+}
+
+// A list for a pool of at most 1,536 bytes: clearing a long one would take longer than reading it.
+fn read_short(p: &[u8], table: &mut [u16]) -> Outcome
+    requires { ⌜ length (now p) ≤ 1536 ⌝ }
+    ensures { λ r. ⌜ (answerOf r ≡ readOf (now (p .entry)) (roomOf (now (table .entry)))) × (now (table .exit) ≡ tableAfter (now (p .entry)) (now (table .entry))) ⌝ }
+{
+    let mut starts = [0u16; 512];
+    read_by(p, table, &mut starts)
+}
+
+// A list for as many records as a pool may have.
+fn read_long(p: &[u8], table: &mut [u16]) -> Outcome
+    ensures { λ r. ⌜ (answerOf r ≡ readOf (now (p .entry)) (roomOf (now (table .entry)))) × (now (table .exit) ≡ tableAfter (now (p .entry)) (now (table .entry))) ⌝ }
+{
+    let mut starts = [0u16; 8192];
+    read_by(p, table, &mut starts)
+}
+
+// Reads a pool into the table.
+pub fn read(p: &[u8], table: &mut [u16]) -> Outcome
+    ensures { λ r. ⌜ (answerOf r ≡ readOf (now (p .entry)) (roomOf (now (table .entry)))) × (now (table .exit) ≡ tableAfter (now (p .entry)) (now (table .entry))) ⌝ }
+{
+    if p.len() <= 1536 {
+        return read_short(p, table);
+    }
+    read_long(p, table)
 }
 
 // Document 01's number for what reading answers, 0 where the pool is read.
