@@ -34,8 +34,39 @@ struct Row {
     second: Times,
 }
 
+/// A pool with what both sides need to read it, and their times so far.
+struct Case {
+    pool: Pool,
+    words: Vec<u16>,
+    table: Vec<Record>,
+    library_times: Vec<f64>,
+    second_times: Vec<f64>,
+}
+
 /// Prints the table and tells whether both sides read every pool alike.
 pub fn bench() -> bool {
+    let mut cases: Vec<Case> = SIZES.map(|size| Case::new(realistic_pool(size))).into();
+    for case in &mut cases {
+        if !case.agrees() {
+            let bytes = case.pool.bytes.len();
+            println!("bench: the sides do not agree about a pool of {bytes} bytes");
+            return false;
+        }
+    }
+    // All sizes and both sides in each round, so that a busy machine slows all.
+    for _ in 0..ROUNDS {
+        cases.iter_mut().for_each(Case::time_once);
+    }
+    print_head();
+    let mut before = None;
+    for row in cases.into_iter().map(Case::row) {
+        print_row(&row, before.as_ref());
+        before = Some(row);
+    }
+    true
+}
+
+fn print_head() {
     println!("microseconds a reading; growth: best time a byte against the size before");
     println!(
         "{:>7}{:>9}{:>18}{:>18}{:>18}{:>18}",
@@ -54,16 +85,6 @@ pub fn bench() -> bool {
         "library",
         "second"
     );
-    let mut before = None;
-    for size in SIZES {
-        let Some(row) = measure(&realistic_pool(size)) else {
-            println!("bench: the sides do not agree about a pool of {size} bytes");
-            return false;
-        };
-        print_row(&row, before.as_ref());
-        before = Some(row);
-    }
-    true
 }
 
 /// A device, then device elements with the data of their lists behind them
@@ -104,34 +125,45 @@ fn with_text(random: &mut Random, kind: Kind) -> Shape {
     shape
 }
 
-fn measure(pool: &Pool) -> Option<Row> {
-    let bytes = &pool.bytes[..];
-    let mut words = vec![0u16; ENTRY_WORDS * ENTRIES];
-    let mut table = vec![Record::default(); ENTRIES];
-    let expected = Answer {
-        number: 0,
-        value: pool.records.len(),
-    };
-    let second = library::answer_of(second::read_pool(bytes, &mut table));
-    if library::read(bytes, &mut words) != expected || second != expected {
-        return None;
+impl Case {
+    fn new(pool: Pool) -> Self {
+        Case {
+            pool,
+            words: vec![0; ENTRY_WORDS * ENTRIES],
+            table: vec![Record::default(); ENTRIES],
+            library_times: Vec::new(),
+            second_times: Vec::new(),
+        }
     }
-    // Side by side in each round, so that a busy machine slows both.
-    let (mut library_times, mut second_times) = (Vec::new(), Vec::new());
-    for _ in 0..ROUNDS {
-        library_times.push(time(bytes, || {
-            black_box(library::read(black_box(bytes), black_box(&mut words)));
+
+    fn agrees(&mut self) -> bool {
+        let expected = Answer {
+            number: 0,
+            value: self.pool.records.len(),
+        };
+        let second = library::answer_of(second::read_pool(&self.pool.bytes, &mut self.table));
+        library::read(&self.pool.bytes, &mut self.words) == expected && second == expected
+    }
+
+    fn time_once(&mut self) {
+        let bytes = &self.pool.bytes[..];
+        let (words, table) = (&mut self.words, &mut self.table);
+        self.library_times.push(time(bytes, || {
+            black_box(library::read(black_box(bytes), black_box(words)));
         }));
-        second_times.push(time(bytes, || {
-            let _ = black_box(second::read_pool(black_box(bytes), black_box(&mut table)));
+        self.second_times.push(time(bytes, || {
+            let _ = black_box(second::read_pool(black_box(bytes), black_box(table)));
         }));
     }
-    Some(Row {
-        bytes: bytes.len(),
-        records: pool.records.len(),
-        library: summary(library_times),
-        second: summary(second_times),
-    })
+
+    fn row(self) -> Row {
+        Row {
+            bytes: self.pool.bytes.len(),
+            records: self.pool.records.len(),
+            library: summary(self.library_times),
+            second: summary(self.second_times),
+        }
+    }
 }
 
 /// Microseconds of one reading in a round of many.

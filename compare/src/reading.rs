@@ -81,7 +81,7 @@ pub fn table_lengths(pool: &[u8]) -> Vec<usize> {
     if answer.number != 0 {
         return vec![0, ENTRY_WORDS + 1, ENTRY_WORDS * most];
     }
-    let needed = ENTRY_WORDS * answer.value as usize;
+    let needed = ENTRY_WORDS * answer.value;
     let mut lengths = vec![0, 1, ENTRY_WORDS];
     lengths.extend(needed - ENTRY_WORDS..=needed + ENTRY_WORDS);
     lengths.push(needed + 9 * ENTRY_WORDS);

@@ -7,7 +7,7 @@ use native.Mathlib.Decide.{decLe}
 use borrow.Author.Tests.{lt-ltb, le-ltb}
 use lib.Dec.{ltb}
 use lib.ListN.{length}
-use Rattle.division.specs.Division.{joined, Division}
+use Rattle.division.specs.Division.{joined, Division, Divides}
 use Rattle.pool.specs.Answer.{Answer, answer}
 use Rattle.pool.specs.Reading.{records, scanOf, entriesIn, pick, readOf}
 use Rattle.pool.proofs.Judged.{read-empty, read-long, read-walk}
@@ -17,7 +17,7 @@ use Rattle.claims.proofs.Sorting.{Sorted, divided, broken, sorted, few,
 
 -- parts of a pool, so many, and how that compares with the room
 abbrev Parts : List ℕ → ℕ → Type 0 → Type 0
-Parts p n compared = Sized p × ((rs : List (List ℕ)) × Division p rs × (length rs ≡ n) × compared)
+Parts p n compared = Sized p × ((d : Divides p) × (length (d .parts) ≡ n) × compared)
 
 scan-parts : (p : List ℕ) (rs : List (List ℕ)) (d : Division p rs) → scanOf p ≡ records (listed rs (d .whole) 0)
 scan-parts p rs d = ap scanOf (d .same) ∙ scan-whole rs (d .whole)
@@ -44,10 +44,10 @@ module _ (p : List ℕ) (room : ℕ) where
       ∙ rw (scan-parts p rs d, listed-length rs (d .whole) 0, le-ltb 8192 (length rs) most)
 
   read-fits : (n : ℕ) → Parts p n (n ≤ room) → readOf p room ≡ answer 0 n
-  read-fits n (s, d) = rw (read-parts s (d .0) (d .1), d .2, le-ltb room n (d .3))
+  read-fits n (s, d) = rw (read-parts s (d .0 .parts) (d .0 .division), d .1, le-ltb room n (d .2))
 
   read-short : (n : ℕ) → Parts p n (room < n) → readOf p room ≡ answer 7 n
-  read-short n (s, d) = rw (read-parts s (d .0) (d .1), d .2, lt-ltb room n (d .3))
+  read-short n (s, d) = rw (read-parts s (d .0 .parts) (d .0 .division), d .1, lt-ltb room n (d .2))
 
   read-bad : (number place : ℕ) → Sized p × Earliest p number place → readOf p room ≡ answer number place
   read-bad number place (s, e) =
@@ -71,8 +71,8 @@ module _ (p : List ℕ) (room : ℕ) where
   said = empty (decLe 1 (length p)) (decLe (length p) 65535)
     where
       compare : Sized p → (rs : List (List ℕ)) → Division p rs → Dec (length rs ≤ room) → Said (readOf p room)
-      compare s rs d (yes h) = let m : Parts p (length rs) (length rs ≤ room) = (s, (rs, d, refl, h)) in rw (read-fits (length rs) m) m
-      compare s rs d (no h) = let m : Parts p (length rs) (room < length rs) = (s, (rs, d, refl, omega arith)) in rw (read-short (length rs) m) m
+      compare s rs d (yes h) = let m : Parts p (length rs) (length rs ≤ room) = (s, (record { parts = rs; division = d }, refl, h)) in rw (read-fits (length rs) m) m
+      compare s rs d (no h) = let m : Parts p (length rs) (room < length rs) = (s, (record { parts = rs; division = d }, refl, omega arith)) in rw (read-short (length rs) m) m
 
       sized : Sized p → Sorted p → Said (readOf p room)
       sized s (divided rs w e) = compare s rs (divides p rs (s .0) w e) (decLe (length rs) room)

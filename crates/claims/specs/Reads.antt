@@ -9,7 +9,7 @@ use Rattle.wire.specs.Bytes.{leOf}
 use Rattle.records.specs.Layout.{kindNumber}
 use Rattle.division.specs.Whole.{Whole}
 use Rattle.division.specs.Bad.{Unmarked, CutShort, OverLimit}
-use Rattle.division.specs.Division.{AllWhole, joined, Division}
+use Rattle.division.specs.Division.{AllWhole, joined, Division, Divides}
 use Rattle.pool.specs.Answer.{answer}
 use Rattle.pool.specs.Reading.{Entry, readOf, scanOf, entriesIn}
 
@@ -41,7 +41,7 @@ Sized p = (1 ≤ length p) × (length p ≤ 65535)
 -- reading, by the division alone
 pub record Reads (p : List ℕ) (room : ℕ) : Type 0 where
   -- it succeeds exactly if the pool is 1 to 65,535 bytes, divides into records and the table holds them; the count is theirs
-  pub read : (n : ℕ) → (readOf p room ≡ answer 0 n) ↔ (Sized p × ((rs : List (List ℕ)) × Division p rs × (length rs ≡ n) × (n ≤ room)))
+  pub read : (n : ℕ) → (readOf p room ≡ answer 0 n) ↔ (Sized p × ((d : Divides p) × (length (d .parts) ≡ n) × (n ≤ room)))
   -- and the entries are the division's
   pub entries : (rs : List (List ℕ)) (d : Division p rs) → entriesIn (scanOf p) ≡ listed rs (d .whole) 0
   pub empty : (readOf p room ≡ answer 1 0) ↔ (length p ≡ 0)
@@ -50,4 +50,4 @@ pub record Reads (p : List ℕ) (room : ℕ) : Type 0 where
   pub refused : (number place : ℕ) → (3 ≤ number) × (number ≤ 5) → (readOf p room ≡ answer number place) ↔ (Sized p × Earliest p number place)
   -- 6 is never given
   pub many : (place : ℕ) → readOf p room ≡ answer 6 place → ⊥
-  pub short : (n : ℕ) → (readOf p room ≡ answer 7 n) ↔ (Sized p × ((rs : List (List ℕ)) × Division p rs × (length rs ≡ n) × (room < n)))
+  pub short : (n : ℕ) → (readOf p room ≡ answer 7 n) ↔ (Sized p × ((d : Divides p) × (length (d .parts) ≡ n) × (room < n)))

@@ -150,7 +150,7 @@ fn dvp_end(p: &[u8], at: usize) -> Extent
 }
 
 // The fields after a mark.
-pub fn marked(p: &[u8], m: Mark, at: usize) -> Extent
+pub(crate) fn marked(p: &[u8], m: Mark, at: usize) -> Extent
     requires { ⌜ at ≤ length (now p) ⌝ }
     ensures { λ r. ⌜ r ≡ markedEnd m (now (p .entry)) at ⌝ }
 {
