@@ -123,7 +123,7 @@ fn limit_inputs(shape: &Shape, index: usize, length: usize, inputs: &mut Vec<Inp
     }
 }
 
-/// One to three bytes at a record's start, whole marks and wrong ones.
+/// One to three bytes where a record should begin, whole marks and wrong ones.
 fn marks() -> Vec<Input> {
     let mut starts: Vec<Vec<u8>> = (0..=255).map(|byte| vec![byte]).collect();
     for first in *b"DVCETPd\0" {

@@ -34,7 +34,7 @@ pub record Earliest (p : List ℕ) (number place : ℕ) : Type 0 where
   pub bad : Bad rest number offset
   pub at : place ≡ length (joined before) + offset
 
--- the pool is one that can be read at all: refusals 1 and 2 come first
+-- the pool has a size that can be read at all: refusals 1 and 2 go by that alone
 abbrev pub Sized : List ℕ → Type 0
 Sized p = (1 ≤ length p) × (length p ≤ 65535)
 
@@ -46,7 +46,7 @@ pub record Reads (p : List ℕ) (room : ℕ) : Type 0 where
   pub entries : (rs : List (List ℕ)) (d : Division p rs) → entriesIn (scanOf p) ≡ listed rs (d .whole) 0
   pub empty : (readOf p room ≡ answer 1 0) ↔ (length p ≡ 0)
   pub long : (readOf p room ≡ answer 2 0) ↔ (65535 < length p)
-  -- 3, 4 and 5: the earliest bad record decides
+  -- 3, 4 and 5 speak of the earliest bad record
   pub refused : (number place : ℕ) → (3 ≤ number) × (number ≤ 5) → (readOf p room ≡ answer number place) ↔ (Sized p × Earliest p number place)
   -- 6 is never given
   pub many : (place : ℕ) → readOf p room ≡ answer 6 place → ⊥

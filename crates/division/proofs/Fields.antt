@@ -67,7 +67,7 @@ field-cut entries (lo ∷ hi ∷ s) m pre o h =
     let j : length (s ++ m) ≡ length (h .2) = cc in
     entries-cut p (length pre) (omega arith) (omega (arith, length-append s m))
 
--- a length byte over its limit is refused at its own place
+-- a length byte that exceeds its limit is refused at its own place
 pub length-over : (limit over : ℕ) (rest pre : List ℕ) → limit < over → fieldEnd (text limit) (pre ++ (over ∷ rest)) (length pre) ≡ LengthOver (length pre)
 length-over limit over rest pre h =
     let p : List ℕ = pre ++ (over ∷ rest) in
@@ -84,7 +84,7 @@ pub record Over (f : Field) (s : List ℕ) : Type 0 where
   pub stands : s ≡ over ∷ rest
   pub exceeds : limit < over
 
--- any bytes are a field and more, or a beginning of it, or their length byte is over its limit
+-- any bytes are a field and more, or a beginning of it, or their length byte exceeds its limit
 pub field-reading : (f : Field) (s : List ℕ) → Reading (Is f) (Over f s) s
 unfolding leOf
 field-reading (fixed n) s = enough n s

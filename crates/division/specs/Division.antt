@@ -1,4 +1,4 @@
--- A pool divides into records if it is one or more whole records, back to back in any order. Definitions only.
+-- The division of a pool: a list of whole records, not an empty one, whose bytes joined are the pool. Definitions only.
 use Prim.Native.Nat.{ℕ, _<_}
 use mathlib.Core.Path.{_≡_}
 use mathlib.Core.List.{List, [], _∷_, _++_}

@@ -82,12 +82,12 @@ abbrev pub pick : Bool → Answer → Answer → Answer
 pick true a b = a
 pick false a b = b
 
--- 6 and 7 follow a full reading
+-- once all of the pool has been walked: too many records, then too short a table
 abbrev pub counted : ℕ → Scan → Answer
 counted room (refused c at) = answer (causeNumber c) at
 counted room (records es) = pick (ltb 8192 (length es)) (answer 6 0) (pick (ltb room (length es)) (answer 7 (length es)) (answer 0 (length es)))
 
--- 1 and 2 come first; room is the number of entries that the table has
+-- the size is judged before anything else; room is the number of entries that the table has
 unfoldable pub readOf : List ℕ → ℕ → Answer
 readOf p room = pick (eqb (length p) 0) (answer 1 0) (pick (ltb 65535 (length p)) (answer 2 0) (counted room (scanOf p)))
 

@@ -27,7 +27,7 @@ module _ (p : List ℕ) (at : ℕ) where
 
   pub element-view : (d : Span) (t n q m : ℕ)
       → t ≡ getD p (at + 3 + 2) 0 → d ≡ textAt p (at + 3 + 2 + 1) → n ≡ numberAt 2 p (d .to) → q ≡ numberAt 2 p (d .to + 2) → m ≡ numberAt 2 p (d .to + 2 + 2)
-      → _≡_ {A = DeviceElement} (record { role = t; designator = d; number = n; parent = q; entries = m }) (elementOf p at)
+      → _≡_ {A = DeviceElement} (record { «element_type» = t; designator = d; number = n; parent = q; entries = m }) (elementOf p at)
   unfolding elementOf fieldAt layout
   element-view d t n q m ht hd hn hq hm = cc
 

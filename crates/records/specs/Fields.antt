@@ -53,12 +53,11 @@ deviceOf p at =
       extended = textAt p (fieldAt Dvc 7 p at);
     }
 
--- the role is the device element's type
 unfoldable pub elementOf : List ℕ → ℕ → DeviceElement
 unfolding fieldAt layout
 elementOf p at =
     record {
-      role = getD p (fieldAt Det 1 p at) 0;
+      «element_type» = getD p (fieldAt Det 1 p at) 0;
       designator = textAt p (fieldAt Det 2 p at);
       number = numberAt 2 p (fieldAt Det 3 p at);
       parent = numberAt 2 p (fieldAt Det 4 p at);

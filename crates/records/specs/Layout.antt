@@ -35,7 +35,7 @@ layout Dpd = fixed 2 ∷ fixed 2 ∷ fixed 1 ∷ fixed 1 ∷ text 128 ∷ fixed 
 layout Dpt = fixed 2 ∷ fixed 2 ∷ fixed 4 ∷ text 128 ∷ fixed 2 ∷ []
 layout Dvp = fixed 2 ∷ fixed 4 ∷ fixed 4 ∷ fixed 1 ∷ text 128 ∷ []
 
--- the number that stands for a kind in a table; document 01 leaves it free
+-- a kind as a number in a table; document 01 leaves the number free
 abbrev pub kindNumber : Kind → ℕ
 kindNumber Dvc = 1
 kindNumber Det = 2
@@ -68,6 +68,6 @@ markOf s =
     (pickMark (same s (mark Dpt)) (Of Dpt)
     (pickMark (same s (mark Dvp)) (Of Dvp) Unknown))))
 
--- the three bytes at a place; past the end stands 0, which is in no mark
+-- the three bytes at a place, 0 for one past the end; no mark has a 0
 abbrev pub three : List ℕ → ℕ → List ℕ
 three p at = getD p at 0 ∷ getD p (at + 1) 0 ∷ getD p (at + 2) 0 ∷ []

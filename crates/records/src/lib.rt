@@ -11,7 +11,7 @@ pub enum Kind {
     Dvp,
 }
 
-// What three bytes at a record's start are.
+// What the first three bytes of a record say.
 pub enum Mark {
     Of(Kind),
     Unknown,
@@ -42,7 +42,7 @@ pub struct Device {
 }
 
 pub struct DeviceElement {
-    pub role: u8,
+    pub element_type: u8,
     pub designator: Span,
     pub number: u16,
     pub parent: u16,

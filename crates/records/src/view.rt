@@ -89,16 +89,16 @@ pub fn device_element(p: &[u8], at: u16) -> DeviceElement
     ensures { λ r. ⌜ r ≡ elementOf (now (p .entry)) at ⌝ }
 {
     let id_at = at as usize + 3;
-    let role_at = id_at + 2;
-    let role = wire::read_u8(p, role_at);
-    let designator = text(p, role_at + 1);
+    let type_at = id_at + 2;
+    let element_type = wire::read_u8(p, type_at);
+    let designator = text(p, type_at + 1);
     let number_at = designator.to;
     let number = wire::read_u16(p, number_at);
     let parent_at = number_at + 2;
     let parent = wire::read_u16(p, parent_at);
     let entries = wire::read_u16(p, parent_at + 2);
     DeviceElement {
-        role,
+        element_type,
         designator,
         number,
         parent,

@@ -62,3 +62,8 @@ unfolding signedOf bitsOf
 signed-bits (pos n) f = rw (lt-ltb (2 * n) 4294967296 (omega (arith, f .sfits)))
 signed-bits (negsuc n) f =
     rw (le-ltb (2 * (4294967296 - suc n)) 4294967296 (omega (arith, f .sfits))) (ap negsuc (omega (arith, f .sfits)))
+
+pub bits-small : (z : ℤ) → mag z < 2 ^ 31 → bitsOf 4 z < 256 ^ 4
+unfolding bitsOf
+bits-small (pos n) f = omega arith
+bits-small (negsuc n) f = omega arith

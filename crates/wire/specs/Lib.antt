@@ -1,2 +1,3 @@
--- What the contracts of `wire` cite.
+-- What the contracts of `wire` cite, in the order to read it.
 pub mod Bytes
+pub mod ReadBack

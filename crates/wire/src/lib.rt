@@ -5,6 +5,7 @@ ghost use lib.Dec.{leb};
 ghost use lib.ListN.{length, getD};
 ghost use lib.Seq.{sets};
 ghost use Rattle.wire.specs.Bytes.{bytesOf, numberAt, signedOf, bitsOf, laid};
+ghost use Rattle.wire.specs.ReadBack.{Unsigned, Signed32};
 
 // The number in w bytes that are all there: from the highest byte down.
 fn number(s: &[u8], at: usize, w: usize) -> u64
@@ -167,3 +168,8 @@ pub fn copy(from: &[u8], to: &mut [u8], at: usize) -> bool
     }
     false
 }
+
+// What is written reads back the same. The function does nothing: its contract is the claim, so that the report names it.
+pub fn written_reads_back()
+    ensures { λ _. ⌜ Unsigned × Signed32 ⌝ }
+{}

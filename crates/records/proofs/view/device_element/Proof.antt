@@ -7,8 +7,8 @@ use Rattle.records.proofs.view.device_element.Tie as tie
 add-id-at : tie.Need-add-id-at
 add-id-at c = search needs
 
-add-role-at : tie.Need-add-role-at
-add-role-at c = search needs
+add-type-at : tie.Need-add-type-at
+add-type-at c = search needs
 
 read-u8-requires : tie.Need-read-u8-requires
 read-u8-requires c κs = search needs
@@ -42,7 +42,7 @@ device-element-spec =
     tie.close
     (tie.spec
     add-id-at
-    add-role-at
+    add-type-at
     read-u8-requires
     add-text
     text-requires
