@@ -8,7 +8,8 @@ ghost use Rattle.pool.specs.Answer.{answerOf};
 ghost use Rattle.pool.specs.Reading.{width, numbers, flat, entryAt, scanOf, entriesIn, readOf, roomOf, tableAfter};
 ghost use Rattle.pool.specs.Walk.{countFrom, Lists, ListsIf, endIn, Ready, Holds};
 
-// What reading answers: the count of records, or why the pool is refused and where.
+// What reading answers: the count of records, or why the pool is refused and where. The refusals stand in the order of their
+// numbers, 1 to 7.
 pub enum Outcome {
     Records(usize),
     Empty,
