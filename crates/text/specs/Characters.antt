@@ -1,0 +1,31 @@
+-- The characters of a text. Definitions only.
+use Prim.Native.Nat.{ℕ, zero, suc, _+_, _-_}
+use mathlib.Core.Bool.{Bool, true, false}
+use mathlib.Core.List.{List, [], _∷_}
+use lib.Dec.{eqb}
+use lib.ListN.{getD}
+use Rattle.text.specs.Octets.{width}
+use Rattle.text.specs.declared.Counted.{Counted}
+use Rattle.text.specs.declared.Counted.the-variants.{Characters, Malformed}
+
+abbrev pub pick : Bool → Counted → Counted → Counted
+pick true a b = a
+pick false a b = b
+
+-- n characters before
+abbrev pub plus : ℕ → Counted → Counted
+plus n (Characters m) = Characters (n + m)
+plus n Malformed = Malformed
+
+-- the characters of a text, k bytes into which a character ends
+unfoldable pub charactersIn : ℕ → List ℕ → Counted
+unfolding width
+charactersIn k [] = Characters 0
+charactersIn zero (a ∷ s) =
+    let w = width a (getD s 0 0) (getD s 1 0) (getD s 2 0) in
+    pick (eqb w 0) Malformed (plus 1 (charactersIn (w - 1) s))
+charactersIn (suc k) (a ∷ s) = charactersIn k s
+
+-- the character that begins at a place of a text: past the end stands 0, which is no tail
+abbrev pub widthAt : List ℕ → ℕ → ℕ
+widthAt s i = width (getD s i 0) (getD s (i + 1) 0) (getD s (i + 2) 0) (getD s (i + 3) 0)

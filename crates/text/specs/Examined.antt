@@ -1,0 +1,33 @@
+-- A sound text: document 01, rule 4. Definitions only.
+use Prim.Native.Nat.{ℕ, _≤_}
+use mathlib.Core.Path.{_≡_}
+use mathlib.Core.Bool.{Bool, true, false, cond, _&&_}
+use mathlib.Core.List.{List, [], _∷_, _++_}
+use mathlib.Core.Logic.{_↔_}
+use lib.Dec.{eqb, leb}
+use lib.ListN.{getD}
+use Rattle.text.specs.Grammar.{Text}
+use Rattle.text.specs.Characters.{charactersIn}
+use Rattle.text.specs.declared.Counted.{Counted}
+use Rattle.text.specs.declared.Counted.the-variants.{Characters, Malformed}
+
+-- the first three bytes are the mark
+abbrev pub marked : List ℕ → Bool
+marked s = eqb (getD s 0 0) 0xEF && (eqb (getD s 1 0) 0xBB && eqb (getD s 2 0) 0xBF)
+
+abbrev pub few : Counted → Bool
+few (Characters n) = leb n 32
+few Malformed = false
+
+unfoldable pub soundText : List ℕ → Bool
+soundText s = cond (marked s) false (few (charactersIn 0 s))
+
+-- a sound text without a count of ours: characters of the grammar, at most 32, and not the mark in front
+pub record Sound (s : List ℕ) : Type 0 where
+  pub length : ℕ
+  pub text : Text s length
+  pub few : length ≤ 32
+  pub plain : (rest : List ℕ) → s ≡ 0xEF ∷ 0xBB ∷ 0xBF ∷ rest → ⊥
+
+abbrev pub Examined : List ℕ → Type 0
+Examined s = (soundText s ≡ true) ↔ Sound s

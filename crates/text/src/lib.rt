@@ -1,0 +1,161 @@
+// One text of a pool: whether it is well-formed UTF-8 (RFC 3629), does not begin with the mark EF BB BF and has at most 32
+// characters.
+ghost use mathlib.Core.Path.{_≡_};
+ghost use mathlib.Core.Bool.{cond, _&&_};
+ghost use mathlib.Core.List.{List};
+ghost use Prim.Native.Nat.{ℕ, _≤_, _<_};
+ghost use lib.ListN.{length};
+ghost use Rattle.text.specs.Octets as O;
+ghost use Rattle.text.specs.Characters.{charactersIn, widthAt};
+ghost use Rattle.text.specs.Examined.{soundText, marked, Examined};
+
+// How many characters a text has.
+pub enum Counted {
+    Characters(usize),
+    Malformed,
+}
+
+fn within(lo: u8, hi: u8, b: u8) -> bool
+    ensures { λ r. ⌜ r ≡ O.within lo hi b ⌝ }
+{
+    (lo <= b) & (b <= hi)
+}
+
+// The width where the second byte is within a range and the others are tails, else 0.
+fn two_wide(lo: u8, hi: u8, b: u8) -> usize
+    ensures { λ r. ⌜ (r ≡ cond (O.within lo hi b) 2 0) × (r ≤ 4) ⌝ }
+{
+    if within(lo, hi, b) {
+        return 2;
+    }
+    0
+}
+
+fn three_wide(lo: u8, hi: u8, b: u8, c: u8) -> usize
+    ensures { λ r. ⌜ (r ≡ cond (O.within lo hi b && O.tail c) 3 0) × (r ≤ 4) ⌝ }
+{
+    if within(lo, hi, b) & within(0x80, 0xBF, c) {
+        return 3;
+    }
+    0
+}
+
+fn four_wide(lo: u8, hi: u8, b: u8, c: u8, d: u8) -> usize
+    ensures { λ r. ⌜ (r ≡ cond ((O.within lo hi b && O.tail c) && O.tail d) 4 0) × (r ≤ 4) ⌝ }
+{
+    if within(lo, hi, b) & within(0x80, 0xBF, c) & within(0x80, 0xBF, d) {
+        return 4;
+    }
+    0
+}
+
+// The width of the character that begins with a byte from E0 to EF.
+fn from_e0(a: u8, b: u8, c: u8, d: u8) -> usize
+    requires { ⌜ (0xE0 ≤ a) × (a < 0xF0) ⌝ }
+    ensures { λ r. ⌜ (r ≡ O.width a b c d) × (r ≤ 4) ⌝ }
+{
+    if a == 0xE0 {
+        return three_wide(0xA0, 0xBF, b, c);
+    }
+    if a == 0xED {
+        return three_wide(0x80, 0x9F, b, c);
+    }
+    three_wide(0x80, 0xBF, b, c)
+}
+
+// The same from F0 on.
+fn from_f0(a: u8, b: u8, c: u8, d: u8) -> usize
+    requires { ⌜ 0xF0 ≤ a ⌝ }
+    ensures { λ r. ⌜ (r ≡ O.width a b c d) × (r ≤ 4) ⌝ }
+{
+    if a == 0xF0 {
+        return four_wide(0x90, 0xBF, b, c, d);
+    }
+    if a < 0xF4 {
+        return four_wide(0x80, 0xBF, b, c, d);
+    }
+    if a == 0xF4 {
+        return four_wide(0x80, 0x8F, b, c, d);
+    }
+    0
+}
+
+// How many bytes the character has that begins with these four, 0 where none does. The first byte leads to its row.
+fn width(a: u8, b: u8, c: u8, d: u8) -> usize
+    ensures { λ r. ⌜ (r ≡ O.width a b c d) × (r ≤ 4) ⌝ }
+{
+    if a < 0x80 {
+        return 1;
+    }
+    if a < 0xC2 {
+        return 0;
+    }
+    if a < 0xE0 {
+        return two_wide(0x80, 0xBF, b);
+    }
+    if a < 0xF0 {
+        return from_e0(a, b, c, d);
+    }
+    from_f0(a, b, c, d)
+}
+
+// Past the text's end stands 0, which continues no character.
+fn width_at(s: &[u8], i: usize) -> usize
+    requires { ⌜ i < length (now s) ⌝ }
+    ensures { λ r. ⌜ (r ≡ widthAt (now (s .entry)) i) × (r ≤ 4) ⌝ }
+{
+    width(
+        s[i],
+        wire::read_u8(s, i + 1),
+        wire::read_u8(s, i + 2),
+        wire::read_u8(s, i + 3),
+    )
+}
+
+pub fn count(s: &[u8]) -> Counted
+    ensures { λ r. ⌜ r ≡ charactersIn 0 (now (s .entry)) ⌝ }
+{
+    let mut n = 0usize;
+    let mut i = 0usize;
+    while i < s.len() {
+        let w = width_at(s, i);
+        if w == 0 {
+            return Counted::Malformed;
+        }
+        n += 1;
+        i += w;
+    }
+    Counted::Characters(n)
+}
+
+fn is_marked(s: &[u8]) -> bool
+    ensures { λ r. ⌜ r ≡ marked (now (s .entry)) ⌝ }
+{
+    if wire::read_u8(s, 0) != 0xEF {
+        return false;
+    }
+    if wire::read_u8(s, 1) != 0xBB {
+        return false;
+    }
+    wire::read_u8(s, 2) == 0xBF
+}
+
+// The examiner of a text: rule 4.
+pub fn is_sound(s: &[u8]) -> bool
+    ensures { λ r. ⌜ r ≡ soundText (now (s .entry)) ⌝ }
+{
+    if is_marked(s) {
+        return false;
+    }
+    let counted = count(s);
+    match counted {
+        Counted::Characters(n) => n <= 32,
+        Counted::Malformed => false,
+    }
+}
+
+// The examiner finds a text sound exactly if the grammar of RFC 3629 derives it, with at most 32 characters and without the
+// mark. The function does nothing: its contract is the claim.
+pub fn examined_by_the_grammar()
+    ensures { λ _. ⌜ ((s : List ℕ) → Examined s) ⌝ }
+{}
