@@ -2,13 +2,17 @@
 use mathlib.Core.Path.{_≡_, refl, sym, ap, _∙_}
 use mathlib.Core.Bool.{Bool, true, false, cond, _&&_, true≢false}
 use mathlib.Core.List.{List, [], _∷_}
-use Prim.Native.Nat.{ℕ, _≤_}
+use Prim.Native.Nat.{ℕ, suc, _≤_, _<_}
+use native.Mathlib.Omega.{arith}
 use borrow.Author.Tests.{le-leb, leb-true, eqb-true}
 use lib.Dec.{eqb, leb}
 use Rattle.text.specs.Characters.{charactersIn}
 use Rattle.text.specs.Examined.{marked, few, soundText, Sound, Examined}
 use Rattle.text.specs.declared.Counted.{Counted}
 use Rattle.text.specs.declared.Counted.the-variants.{Characters, Malformed}
+use lib.ListN.{length, getD}
+use Rattle.text.proofs.Widths.{single}
+use Rattle.text.proofs.Steps.{first-differs}
 use Rattle.text.proofs.Derived.{complete, sound}
 
 and-false : (b : Bool) → b && false ≡ false
@@ -68,3 +72,16 @@ sound-marked s m = rw m
 pub sound-counted : (s : List ℕ) (c : Counted) → marked s ≡ false → charactersIn 0 s ≡ c → soundText s ≡ few c
 unfolding soundText
 sound-counted s c m e = rw (m, e)
+
+-- bytes below 80 are a character each
+single-bytes : (s : List ℕ) (high : ℕ) → ((k : ℕ) → getD s k 0 ≤ high) → high < 0x80 → charactersIn 0 s ≡ Characters (length s)
+unfolding charactersIn
+single-bytes [] high h l = refl
+single-bytes (a ∷ s) high h l =
+    let first : a ≤ high = h 0 in
+    rw (single a (getD s 0 0) (getD s 1 0) (getD s 2 0) (omega arith), single-bytes s high (λ (k : ℕ). h (suc k)) l) (ap Characters (omega arith))
+
+pub sound-single : (s : List ℕ) (high : ℕ) → ((k : ℕ) → getD s k 0 ≤ high) → high < 0x80 → length s ≤ 32 → soundText s ≡ true
+sound-single s high h l n =
+    sound-counted s (Characters (length s)) (first-differs s (λ (e : getD s 0 0 ≡ 0xEF). omega (arith, h 0))) (single-bytes s high h l)
+    ∙ le-leb (length s) 32 n

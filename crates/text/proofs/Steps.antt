@@ -4,9 +4,11 @@ use mathlib.Core.Bool.{Bool, true, false, _&&_}
 use mathlib.Core.List.{List, [], _∷_}
 use Prim.Native.Nat.{ℕ, zero, suc, _+_, _-_, _<_, _≤_}
 use native.Mathlib.Omega.{arith}
+use borrow.Author.Count.{below-more}
 use borrow.Author.Tests.{eq-eqb, ne-eqb}
 use lib.Dec.{eqb}
-use lib.ListN.{length, getD, drop}
+use native.Mathlib.Decide.{decLt}
+use lib.ListN.{length, getD, drop, List·getD-eq-default}
 use lib.Seq.{drop-cons, drop-drop, getD-drop}
 use Rattle.text.specs.Octets.{width}
 use Rattle.text.specs.Characters.{charactersIn, pick, plus, widthAt}
@@ -61,3 +63,16 @@ third-decides s x a b e = rw (e, eq-eqb (getD s 0 0) 0xEF a, eq-eqb (getD s 1 0)
 -- a character's width from its bytes
 pub same-width : (s : List ℕ) (i b c d : ℕ) → b ≡ getD s (i + 1) 0 → c ≡ getD s (i + 2) 0 → d ≡ getD s (i + 3) 0 → width (getD s i 0) b c d ≡ widthAt s i
 same-width s i b c d hb hc hd = rw (hb, hc, hd)
+
+-- a bound of the bytes passed, with one byte more
+pub bound-more : (s : List ℕ) (i low high : ℕ) → ((k : ℕ) → k < i → getD s k 0 ≤ low) → low ≤ high → getD s i 0 ≤ high → (k : ℕ) → k < i + 1 → getD s k 0 ≤ high
+bound-more s i low high f l h = below-more _ _ (λ (k : ℕ) (b : k < i). omega (arith, f k b)) h
+
+pub bound-all : (s : List ℕ) (i high : ℕ) → length s ≤ i → ((k : ℕ) → k < i → getD s k 0 ≤ high) → (k : ℕ) → getD s k 0 ≤ high
+bound-all s i high e f k = go (decLt k i)
+  where
+    go : Dec (k < i) → getD s k 0 ≤ high
+    go (yes l) = f k l
+    go (no l) =
+        let z : getD s k 0 ≡ 0 = List·getD-eq-default s 0 (omega arith) in
+        omega arith

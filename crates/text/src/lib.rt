@@ -4,7 +4,7 @@ ghost use mathlib.Core.Path.{_≡_};
 ghost use mathlib.Core.Bool.{cond, _&&_};
 ghost use mathlib.Core.List.{List};
 ghost use Prim.Native.Nat.{ℕ, _≤_, _<_};
-ghost use lib.ListN.{length};
+ghost use lib.ListN.{length, getD};
 ghost use Rattle.text.specs.Octets as O;
 ghost use Rattle.text.specs.Characters.{charactersIn, widthAt};
 ghost use Rattle.text.specs.Examined.{soundText, marked, Examined};
@@ -104,8 +104,12 @@ fn width_at(s: &[u8], i: usize) -> usize
     requires { ⌜ i < length (now s) ⌝ }
     ensures { λ r. ⌜ (r ≡ widthAt (now (s .entry)) i) × (r ≤ 4) ⌝ }
 {
+    let a = s[i];
+    if a < 0x80 {
+        return 1;
+    }
     width(
-        s[i],
+        a,
         wire::read_u8(s, i + 1),
         wire::read_u8(s, i + 2),
         wire::read_u8(s, i + 3),
@@ -140,10 +144,30 @@ fn is_marked(s: &[u8]) -> bool
     wire::read_u8(s, 2) == 0xBF
 }
 
-// The examiner of a text: rule 4.
+// The highest byte.
+fn highest(s: &[u8]) -> u8
+    ensures { λ r. ⌜ ((k : ℕ) → getD (now (s .entry)) k 0 ≤ r) ⌝ }
+{
+    let mut high = 0u8;
+    let mut i = 0usize;
+    while i < s.len() {
+        if high < s[i] {
+            high = s[i];
+        }
+        i += 1;
+    }
+    high
+}
+
+// The examiner of a text: rule 4. Most texts are short and of single bytes, and then nothing is wrong with them.
 pub fn is_sound(s: &[u8]) -> bool
     ensures { λ r. ⌜ r ≡ soundText (now (s .entry)) ⌝ }
 {
+    if s.len() <= 32 {
+        if highest(s) < 0x80 {
+            return true;
+        }
+    }
     if is_marked(s) {
         return false;
     }
