@@ -13,8 +13,7 @@ use lib.Ieee.Bits.{is-true}
 use Rattle.text.specs.Octets.{within, row2, row3, row4, width}
 use Rattle.text.specs.Characters.{charactersIn, pick, plus}
 use Rattle.text.specs.Grammar.{Three, e0, e1, ed, ee, Four, f0, f1, f4, Char, one, two, three, four, Text, none, more}
-use Rattle.text.specs.declared.Counted.{Counted}
-use Rattle.text.specs.declared.Counted.the-variants.{Characters, Malformed}
+use Rattle.text.specs.Characters.{Counted, Characters, Malformed}
 
 -- ---- the table's rows exclude each other: a byte from lo on is in no range that ends below lo
 and-false : (b : Bool) → b && false ≡ false

@@ -8,8 +8,7 @@ use borrow.Author.Tests.{le-leb, leb-true, eqb-true}
 use lib.Dec.{eqb, leb}
 use Rattle.text.specs.Characters.{charactersIn}
 use Rattle.text.specs.Examined.{marked, few, soundText, Sound, Examined}
-use Rattle.text.specs.declared.Counted.{Counted}
-use Rattle.text.specs.declared.Counted.the-variants.{Characters, Malformed}
+use Rattle.text.specs.Characters.{Counted, Characters, Malformed}
 use lib.ListN.{length, getD}
 use Rattle.text.proofs.Widths.{single}
 use Rattle.text.proofs.Steps.{first-differs}

@@ -5,16 +5,15 @@ use mathlib.Core.List.{List, [], _∷_}
 use Prim.Native.Nat.{ℕ, zero, suc, _+_, _-_, _<_, _≤_}
 use native.Mathlib.Omega.{arith}
 use borrow.Author.Count.{below-more}
-use borrow.Author.Tests.{eq-eqb, ne-eqb}
+use borrow.Author.Tests.{eq-eqb, ne-eqb, lt-leb, eqb-true, eqb-false}
 use lib.Dec.{eqb}
 use native.Mathlib.Decide.{decLt}
 use lib.ListN.{length, getD, drop, List·getD-eq-default}
 use lib.Seq.{drop-cons, drop-drop, getD-drop}
 use Rattle.text.specs.Octets.{width}
 use Rattle.text.specs.Characters.{charactersIn, pick, plus, widthAt}
-use Rattle.text.specs.Examined.{marked}
-use Rattle.text.specs.declared.Counted.{Counted}
-use Rattle.text.specs.declared.Counted.the-variants.{Characters, Malformed}
+use Rattle.text.specs.Examined.{marked, few}
+use Rattle.text.specs.Characters.{Counted, Characters, Malformed}
 
 skip : (k : ℕ) (s : List ℕ) → charactersIn k s ≡ charactersIn 0 (drop k s)
 unfolding charactersIn
@@ -76,3 +75,21 @@ bound-all s i high e f k = go (decLt k i)
     go (no l) =
         let z : getD s k 0 ≡ 0 = List·getD-eq-default s 0 (omega arith) in
         omega arith
+
+-- ---- at most 32 characters
+pub few-malformed : (n : ℕ) (x : Counted) → x ≡ Malformed → few (plus n x) ≡ false
+few-malformed n x e = rw e
+
+-- behind 32 characters one more is too many, whatever follows it
+few-no-more : (n : ℕ) (x : Counted) → n ≡ 32 → few (plus n (plus 1 x)) ≡ false
+few-no-more n (Characters m) e = lt-leb (n + (1 + m)) 32 (omega arith)
+few-no-more n Malformed e = refl
+
+pub few-at-most : (s : List ℕ) (i n : ℕ) → i < length s → n ≡ 32 → few (plus n (charactersIn 0 (drop i s))) ≡ false
+few-at-most s i n h e = go (eqb (widthAt s i) 0) refl
+  where
+    go : (t : Bool) → eqb (widthAt s i) 0 ≡ t → few (plus n (charactersIn 0 (drop i s))) ≡ false
+    go true t = few-malformed n (charactersIn 0 (drop i s)) (bad s i h (eqb-true (widthAt s i) 0 t))
+    go false t =
+        ap (λ (x : Counted). few (plus n x)) (good s i h (eqb-false (widthAt s i) 0 t))
+        ∙ few-no-more n (charactersIn 0 (drop (i + widthAt s i) s)) e

@@ -5,8 +5,11 @@ use mathlib.Core.List.{List, [], _∷_}
 use lib.Dec.{eqb}
 use lib.ListN.{getD}
 use Rattle.text.specs.Octets.{width}
-use Rattle.text.specs.declared.Counted.{Counted}
-use Rattle.text.specs.declared.Counted.the-variants.{Characters, Malformed}
+
+-- how many characters a text has, if it has none but characters
+pub data Counted : Type 0 where
+  Characters : ℕ → Counted
+  Malformed : Counted
 
 abbrev pub pick : Bool → Counted → Counted → Counted
 pick true a b = a

@@ -8,8 +8,7 @@ use lib.Dec.{eqb, leb}
 use lib.ListN.{getD}
 use Rattle.text.specs.Grammar.{Text}
 use Rattle.text.specs.Characters.{charactersIn}
-use Rattle.text.specs.declared.Counted.{Counted}
-use Rattle.text.specs.declared.Counted.the-variants.{Characters, Malformed}
+use Rattle.text.specs.Characters.{Counted, Characters, Malformed}
 
 -- the first three bytes are the mark
 abbrev pub marked : List ℕ → Bool

@@ -7,13 +7,7 @@ ghost use Prim.Native.Nat.{ℕ, _≤_, _<_};
 ghost use lib.ListN.{length, getD};
 ghost use Rattle.text.specs.Octets as O;
 ghost use Rattle.text.specs.Characters.{charactersIn, widthAt};
-ghost use Rattle.text.specs.Examined.{soundText, marked, Examined};
-
-// How many characters a text has.
-pub enum Counted {
-    Characters(usize),
-    Malformed,
-}
+ghost use Rattle.text.specs.Examined.{soundText, marked, few, Examined};
 
 fn within(lo: u8, hi: u8, b: u8) -> bool
     ensures { λ r. ⌜ r ≡ O.within lo hi b ⌝ }
@@ -116,20 +110,24 @@ fn width_at(s: &[u8], i: usize) -> usize
     )
 }
 
-pub fn count(s: &[u8]) -> Counted
-    ensures { λ r. ⌜ r ≡ charactersIn 0 (now (s .entry)) ⌝ }
+// Whether a text is of whole characters, at most 32. It stops at the first thing wrong, a 33rd character too.
+fn is_few(s: &[u8]) -> bool
+    ensures { λ r. ⌜ r ≡ few (charactersIn 0 (now (s .entry))) ⌝ }
 {
     let mut n = 0usize;
     let mut i = 0usize;
     while i < s.len() {
+        if n == 32 {
+            return false;
+        }
         let w = width_at(s, i);
         if w == 0 {
-            return Counted::Malformed;
+            return false;
         }
         n += 1;
         i += w;
     }
-    Counted::Characters(n)
+    true
 }
 
 fn is_marked(s: &[u8]) -> bool
@@ -171,11 +169,7 @@ pub fn is_sound(s: &[u8]) -> bool
     if is_marked(s) {
         return false;
     }
-    let counted = count(s);
-    match counted {
-        Counted::Characters(n) => n <= 32,
-        Counted::Malformed => false,
-    }
+    is_few(s)
 }
 
 // The examiner finds a text sound exactly if the grammar of RFC 3629 derives it, with at most 32 characters and without the

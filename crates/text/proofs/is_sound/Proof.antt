@@ -1,5 +1,5 @@
 -- `text::is_sound` meets its contract. Assumes nothing.
-use mathlib.Core.Path.{_≡_, sym, _∙_}
+use mathlib.Core.Path.{_≡_, refl, sym, _∙_}
 use Rattle.text.proofs.Examining.{sound-marked, sound-counted, sound-single}
 use borrow.Author.Needs.{needs}
 use Rattle.text.proofs.is_sound.Statement.{statement}
@@ -17,31 +17,13 @@ is-marked-requires c κs = search needs
 returns-2 : tie.Need-returns-2
 returns-2 c = sym (sound-marked (c .before .before .before .before .args .s .now) (sym (c .before .is-marked .ensures) ∙ c .if3 .taken))
 
-count-requires : tie.Need-count-requires
-count-requires c κs = search needs
-
-enum-known-counted : tie.Need-enum-known-counted
-enum-known-counted c = search needs
-
-enum-told : tie.Need-enum-told
-enum-told c = search needs
+is-few-requires : tie.Need-is-few-requires
+is-few-requires c κs = search needs
 
 returns-3 : tie.Need-returns-3
-returns-3 c = sym (sound-counted (c .before .before .before .before .before .before .before .before .args .s .now) _ (sym (c .before .before .before .before .before .is-marked .ensures) ∙ c .before .before .before .before .if3 .left) (sym (c .before .before .before .count .ensures) ∙ c .before .counted .given .1))
-
-returns-4 : tie.Need-returns-4
-returns-4 c = sym (sound-counted (c .before .before .before .before .before .before .before .args .s .now) _ (sym (c .before .before .before .before .is-marked .ensures) ∙ c .before .before .before .if3 .left) (sym (c .before .before .count .ensures) ∙ c .enum-told .given .1))
+returns-3 c = c .is-few .ensures ∙ sym (sound-counted (c .before .before .before .before .before .args .s .now) _ (sym (c .before .before .is-marked .ensures) ∙ c .before .if3 .left) refl)
 
 pub is-sound-spec : {M : Type 1} → statement M
 is-sound-spec =
     tie.close
-    (tie.spec
-    highest-requires
-    returns
-    is-marked-requires
-    returns-2
-    count-requires
-    enum-known-counted
-    enum-told
-    returns-3
-    returns-4)
+    (tie.spec highest-requires returns is-marked-requires returns-2 is-few-requires returns-3)
