@@ -20,6 +20,15 @@ const LONGEST_TEXT: usize = 24;
 const MOST_ENTRIES: usize = 12;
 const ENTRIES: usize = MAX_POOL_BYTES / SHORTEST_RECORD;
 
+/// Kinds of texts: a name, a character and how many of it.
+const TEXTS: [(&str, &str, usize); 5] = [
+    ("12 letters", "a", 12),
+    ("32 letters", "a", 32),
+    ("128 letters", "a", 128),
+    ("32 characters of 3 bytes", "€", 32),
+    ("32 characters of 4 bytes", "𝄞", 32),
+];
+
 /// Times of one reading in microseconds.
 #[derive(Clone, Copy)]
 struct Times {
@@ -57,6 +66,7 @@ pub fn bench() -> bool {
     for _ in 0..ROUNDS {
         cases.iter_mut().for_each(Case::time_once);
     }
+    print_texts();
     print_head();
     let mut before = None;
     for row in cases.into_iter().map(Case::row) {
@@ -64,6 +74,31 @@ pub fn bench() -> bool {
         before = Some(row);
     }
     true
+}
+
+/// Examines texts of some kinds with both sides, many at a time.
+fn print_texts() {
+    println!("nanoseconds a text, best of rounds");
+    println!(
+        "{:>28}{:>9}{:>9}{:>16}",
+        "text", "library", "second", "library/second"
+    );
+    for (name, character, count) in TEXTS {
+        let text = character.repeat(count).into_bytes();
+        let (mut library, mut second) = (f64::MAX, f64::MAX);
+        for _ in 0..ROUNDS {
+            library = library.min(time(&text, || {
+                black_box(library::text_is_sound(black_box(&text)));
+            }));
+            second = second.min(time(&text, || {
+                black_box(second::text_is_sound(black_box(&text)));
+            }));
+        }
+        let ratio = library / second;
+        let (library, second) = (library * 1e3, second * 1e3);
+        println!("{name:>28}{library:>9.1}{second:>9.1}{ratio:>16.2}");
+    }
+    println!();
 }
 
 fn print_head() {

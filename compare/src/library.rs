@@ -10,6 +10,7 @@ extern "C" {
         table_len: usize,
         value: *mut usize,
     ) -> u32;
+    fn lachsbrille_text_is_sound(text: *const u8, text_len: usize) -> bool;
 }
 
 /// Words of a table entry: start, length, kind, ID.
@@ -39,6 +40,13 @@ pub fn read(pool: &[u8], table: &mut [u16]) -> Answer {
         )
     };
     Answer { number, value }
+}
+
+/// Examines `text` with the proved library.
+pub fn text_is_sound(text: &[u8]) -> bool {
+    // SAFETY: the text is live for the whole call, and the pointer of an empty
+    // slice is not null.
+    unsafe { lachsbrille_text_is_sound(text.as_ptr(), text.len()) }
 }
 
 /// The same answer as the library would give it.

@@ -11,6 +11,7 @@ mod reading;
 mod run;
 mod shape;
 mod tally;
+mod texts;
 mod vectors;
 
 use run::Options;

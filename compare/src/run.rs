@@ -6,6 +6,7 @@ use crate::input::{Input, Known};
 use crate::lister::Lister;
 use crate::reading::{table_lengths, Reading};
 use crate::tally::Tallies;
+use crate::texts::{self, Report};
 use second::Record;
 use std::fs;
 use std::io;
@@ -35,7 +36,8 @@ pub fn run(options: Options) -> io::Result<bool> {
         input.listed = index % stride == 0;
         run.compare(&input);
     }
-    Ok(run.report())
+    let texts = texts::compare(options.seed, options.pools);
+    Ok(run.report(&texts))
 }
 
 struct Run {
@@ -119,15 +121,20 @@ impl Run {
         }
     }
 
-    fn report(&self) -> bool {
+    fn report(&self, texts: &Report) -> bool {
         self.tallies.print();
         let unseen = self.tallies.unseen();
         for number in &unseen {
             println!("compare: refusal {number} was never seen");
         }
-        let inputs = self.tallies.total().inputs;
-        println!("compare: {inputs} inputs, {} differences", self.differences);
-        self.differences == 0 && unseen.is_empty()
+        println!("texts: {} compared, {} sound", texts.compared, texts.sound);
+        if let Some(text) = &texts.first {
+            println!("first text that differs: {}", hex(text));
+        }
+        let inputs = self.tallies.total().inputs + texts.compared;
+        let differences = self.differences + texts.differences;
+        println!("compare: {inputs} inputs, {differences} differences");
+        differences == 0 && unseen.is_empty()
     }
 }
 

@@ -2,8 +2,19 @@
 //! compared with what this one answers. It is written from the rules alone
 //! and shares no code with the library.
 
+mod chains;
+mod faults;
+mod fields;
 mod lister;
+mod numbers;
 mod pool;
+mod queries;
+mod rules;
+mod texts;
 
+pub use faults::Fault;
 pub use lister::{list, LISTER_ENTRIES};
 pub use pool::{read_pool, Kind, Record, Refusal, MAX_POOL_BYTES, MAX_RECORDS};
+pub use queries::{labels, text, Labels};
+pub use rules::check;
+pub use texts::text_is_sound;

@@ -76,11 +76,10 @@ impl Refusal {
 pub fn read_pool(pool: &[u8], table: &mut [Record]) -> Result<usize, Refusal> {
     // Only a full reading may touch the table, so the records are counted
     // first and entered in a second walk, which finds the same ones.
-    let count = count_records(pool)?;
-    let entries = table
-        .get_mut(..count)
-        .ok_or(Refusal::new(Refusal::SHORT_TABLE, count))?;
-    let mut free = entries.iter_mut();
+    judge_length(pool)?;
+    let mut count = 0;
+    walk(pool, |_| count += 1)?;
+    let mut free = entries_for(count, table)?.iter_mut();
     walk(pool, |record| {
         if let Some(entry) = free.next() {
             *entry = record;
@@ -89,19 +88,37 @@ pub fn read_pool(pool: &[u8], table: &mut [Record]) -> Result<usize, Refusal> {
     Ok(count)
 }
 
-fn count_records(pool: &[u8]) -> Result<usize, Refusal> {
-    if pool.is_empty() {
-        return Err(Refusal::new(Refusal::EMPTY_POOL, 0));
+/// As `read_pool`, but walks once: the records wait in `found`, where nothing
+/// else is kept, until the pool is read in full.
+pub(crate) fn read_pool_through<'a>(
+    found: &mut Vec<Record>,
+    pool: &[u8],
+    table: &'a mut [Record],
+) -> Result<&'a [Record], Refusal> {
+    judge_length(pool)?;
+    found.clear();
+    walk(pool, |record| found.push(record))?;
+    let entries = entries_for(found.len(), table)?;
+    entries.copy_from_slice(found);
+    Ok(entries)
+}
+
+fn judge_length(pool: &[u8]) -> Result<(), Refusal> {
+    match pool.len() {
+        0 => Err(Refusal::new(Refusal::EMPTY_POOL, 0)),
+        1..=MAX_POOL_BYTES => Ok(()),
+        _ => Err(Refusal::new(Refusal::LONG_POOL, 0)),
     }
-    if pool.len() > MAX_POOL_BYTES {
-        return Err(Refusal::new(Refusal::LONG_POOL, 0));
-    }
-    let mut count = 0;
-    walk(pool, |_| count += 1)?;
+}
+
+/// The entries of the table for so many records.
+fn entries_for(count: usize, table: &mut [Record]) -> Result<&mut [Record], Refusal> {
     if count > MAX_RECORDS {
         return Err(Refusal::new(Refusal::MANY_RECORDS, 0));
     }
-    Ok(count)
+    table
+        .get_mut(..count)
+        .ok_or(Refusal::new(Refusal::SHORT_TABLE, count))
 }
 
 /// Visits the records from left to right, up to the first bad one. The pool
