@@ -29,6 +29,6 @@ charactersIn zero (a ∷ s) =
     pick (eqb w 0) Malformed (plus 1 (charactersIn (w - 1) s))
 charactersIn (suc k) (a ∷ s) = charactersIn k s
 
--- the character that begins at a place of a text: past the end stands 0, which is no tail
+-- the character that begins at a place of a text; a byte past the end counts as 0, which continues nothing
 abbrev pub widthAt : List ℕ → ℕ → ℕ
 widthAt s i = width (getD s i 0) (getD s (i + 1) 0) (getD s (i + 2) 0) (getD s (i + 3) 0)
