@@ -150,7 +150,7 @@ fn read_by(p: &[u8], table: &mut [u16], starts: &mut [u16]) -> Outcome
     outcome
 }
 
-// A list for a pool of at most 1,536 bytes: clearing a long one would take longer than reading it.
+// A list for a pool of at most 1,536 bytes: clearing a long one is a good part of the time that such a pool takes.
 fn read_short(p: &[u8], table: &mut [u16]) -> Outcome
     requires { ⌜ length (now p) ≤ 1536 ⌝ }
     ensures { λ r. ⌜ (answerOf r ≡ readOf (now (p .entry)) (roomOf (now (table .entry)))) × (now (table .exit) ≡ tableAfter (now (p .entry)) (now (table .entry))) ⌝ }

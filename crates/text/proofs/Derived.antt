@@ -10,16 +10,13 @@ use lib.Dec.{T, leb, ltb, eqb, leb→le, lit<}
 use lib.ListN.{length, getD}
 use lib.Ieee.Fits.{and-l, and-r}
 use lib.Ieee.Bits.{is-true}
+use Rattle.text.proofs.Widths.{and-false}
 use Rattle.text.specs.Octets.{within, row2, row3, row4, width}
 use Rattle.text.specs.Characters.{charactersIn, pick, plus}
 use Rattle.text.specs.Grammar.{Three, e0, e1, ed, ee, Four, f0, f1, f4, Char, one, two, three, four, Text, none, more}
 use Rattle.text.specs.Characters.{Counted, Characters, Malformed}
 
 -- ---- the table's rows exclude each other: a byte from lo on is in no range that ends below lo
-and-false : (b : Bool) → b && false ≡ false
-and-false true = refl
-and-false false = refl
-
 after : (lo hi lo′ hi′ a : ℕ) → T (within lo hi a) → T (ltb hi′ lo) → within lo′ hi′ a ≡ false
 after lo hi lo′ hi′ a t l =
     let g : hi′ < a = lt-of-lt-of-le (lit< l) (leb→le lo a (and-l (leb lo a) (leb a hi) t)) in

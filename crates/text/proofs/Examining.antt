@@ -10,13 +10,9 @@ use Rattle.text.specs.Characters.{charactersIn}
 use Rattle.text.specs.Examined.{marked, few, soundText, Sound, Examined}
 use Rattle.text.specs.Characters.{Counted, Characters, Malformed}
 use lib.ListN.{length, getD}
-use Rattle.text.proofs.Widths.{single}
+use Rattle.text.proofs.Widths.{and-false, single}
 use Rattle.text.proofs.Steps.{first-differs}
 use Rattle.text.proofs.Derived.{complete, sound}
-
-and-false : (b : Bool) → b && false ≡ false
-and-false true = refl
-and-false false = refl
 
 both : (x y : Bool) → x && y ≡ true → (x ≡ true) × (y ≡ true)
 both true y e = (refl, e)

@@ -10,6 +10,7 @@ use lib.Dec.{eqb}
 use native.Mathlib.Decide.{decLt}
 use lib.ListN.{length, getD, drop, List·getD-eq-default}
 use lib.Seq.{drop-cons, drop-drop, getD-drop}
+use Rattle.text.proofs.Widths.{and-false}
 use Rattle.text.specs.Octets.{width}
 use Rattle.text.specs.Characters.{charactersIn, pick, plus, widthAt}
 use Rattle.text.specs.Examined.{marked, few}
@@ -51,10 +52,6 @@ first-differs s n = rw (ne-eqb (getD s 0 0) 0xEF n)
 
 pub second-differs : (s : List ℕ) → (getD s 1 0 ≡ 0xBB → ⊥) → marked s ≡ false
 second-differs s n = rw (ne-eqb (getD s 1 0) 0xBB n) (and-false (eqb (getD s 0 0) 0xEF))
-  where
-    and-false : (b : Bool) → b && false ≡ false
-    and-false true = refl
-    and-false false = refl
 
 pub third-decides : (s : List ℕ) (x : ℕ) → getD s 0 0 ≡ 0xEF → getD s 1 0 ≡ 0xBB → x ≡ getD s 2 0 → eqb x 0xBF ≡ marked s
 third-decides s x a b e = rw (e, eq-eqb (getD s 0 0) 0xEF a, eq-eqb (getD s 1 0) 0xBB b)

@@ -8,7 +8,7 @@ use borrow.Author.Tests.{le-leb, lt-leb}
 use lib.Dec.{leb}
 use Rattle.text.specs.Octets.{within, tail, width}
 
-and-false : (b : Bool) → b && false ≡ false
+pub and-false : (b : Bool) → b && false ≡ false
 and-false true = refl
 and-false false = refl
 
