@@ -1,0 +1,27 @@
+-- For the functions that write faults one after the other: no statement about a whole check rests on these. Definitions only.
+use Prim.Native.Nat.{ℕ, _+_, _*_}
+use mathlib.Core.Path.{_≡_}
+use mathlib.Core.Bool.{cond}
+use mathlib.Core.List.{List, [], _∷_}
+use lib.Dec.{leb}
+use lib.ListN.{length}
+use lib.Seq.{sets}
+use Rattle.faults.specs.Faults.{Fault, numbers, width}
+use Rattle.faults.specs.Rows.{Row, inRows}
+
+-- fault k is written where it fits
+unfoldable pub putAt : List ℕ → ℕ → Fault → List ℕ
+putAt b k f = cond (leb (k * width + width) (length b)) (sets b (k * width) (numbers f)) b
+
+unfoldable pub puts : List ℕ → ℕ → List Fault → List ℕ
+puts b k [] = b
+puts b k (f ∷ fs) = puts (putAt b k f) (k + 1) fs
+
+-- from a buffer and a count to a buffer and a count: these faults were added
+pub record Emits (b₀ : List ℕ) (k₀ : ℕ) (fs : List Fault) (b : List ℕ) (k : ℕ) : Type 0 where
+  pub laid : b ≡ puts b₀ k₀ fs
+  pub counted : k ≡ k₀ + length fs
+
+-- the faults of these rows of record n were added
+pub record Puts (n : ℕ) (rows : List Row) (b₀ : List ℕ) (k₀ : ℕ) (b : List ℕ) (k : ℕ) : Type 0 where
+  pub emits : Emits b₀ k₀ (inRows n rows) b k

@@ -1,0 +1,42 @@
+// A fault buffer of numbers: each fault is its record, rule and item. A fault is written where it fits and always counted.
+ghost use Prim.Native.Nat.{_+_, _≤_, _<_, _^_};
+ghost use Rattle.faults.specs.Faults.{fault};
+ghost use Rattle.faults.specs.Rows.{one, ifSo};
+ghost use Rattle.faults.specs.Emission.{Emits, Puts};
+ghost use mathlib.Core.Bool.{true};
+ghost use mathlib.Core.List.{[], _∷_};
+
+// The numbers of a fault in a buffer.
+pub const WIDTH: usize = 3;
+
+// Counts a fault, and writes it where it fits.
+fn put(buffer: &mut [u16], count: usize, number: u16, rule: u16, item: u16) -> usize
+    requires { ⌜ count < 2 ^ 48 ⌝ }
+    ensures { λ r. ⌜ Emits (now (buffer .entry)) count (ifSo true (fault number rule item)) (now (buffer .exit)) r × (r ≤ count + 1) ⌝ }
+{
+    let i = count * WIDTH;
+    if i + WIDTH <= buffer.len() {
+        buffer[i] = number;
+        buffer[i + 1] = rule;
+        buffer[i + 2] = item;
+    }
+    count + 1
+}
+
+// The same of a breach that has been looked for.
+pub fn put_if(
+    breach: bool,
+    buffer: &mut [u16],
+    count: usize,
+    number: u16,
+    rule: u16,
+    item: u16,
+) -> usize
+    requires { ⌜ count < 2 ^ 48 ⌝ }
+    ensures { λ r. ⌜ Puts number (one rule item breach ∷ []) (now (buffer .entry)) count (now (buffer .exit)) r × (r ≤ count + 1) ⌝ }
+{
+    if breach {
+        return put(buffer, count, number, rule, item);
+    }
+    count
+}

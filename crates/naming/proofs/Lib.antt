@@ -1,0 +1,7 @@
+-- What belongs to no one function.
+pub mod First
+pub mod Shown
+pub mod Climb
+pub mod Named
+pub mod Entering
+pub mod Jumping

@@ -1,0 +1,65 @@
+-- The first record with a key, what an ID names, and chains of parents, as functions. Definitions only.
+use Prim.Native.Nat.{ℕ, zero, suc, _+_}
+use mathlib.Core.Bool.{Bool, true, false, cond, not, _&&_, _||_}
+use mathlib.Core.List.{List}
+use lib.Dec.{eqb}
+use lib.ListN.{length, getD}
+use Rattle.wire.specs.Bytes.{numberAt}
+use Rattle.records.specs.Fields.{elementOf}
+use Rattle.pool.specs.Reading.{Entry}
+use Rattle.naming.specs.Records.{startAt, idAt, kindAt}
+
+-- a number, unless it is 0
+abbrev pub orElse : ℕ → ℕ → ℕ
+orElse zero b = b
+orElse (suc a) b = suc a
+
+-- the number, from 1, of the first of n records whose key is x; 0 where there is none
+unfoldable pub firstOf : (ℕ → ℕ) → ℕ → ℕ → ℕ
+firstOf key x zero = 0
+firstOf key x (suc n) = orElse (firstOf key x n) (cond (eqb (key n) x) (suc n) 0)
+
+-- keys of record i: for a device element its number and its type, which are else what none has
+abbrev pub numberKey : List ℕ → List Entry → ℕ → ℕ
+numberKey p es i = cond (eqb (kindAt es i) 2) (elementOf p (startAt es i) .number) 65536
+
+abbrev pub typeKey : List ℕ → List Entry → ℕ → ℕ
+typeKey p es i = cond (eqb (kindAt es i) 2) (elementOf p (startAt es i) .«element_type») 256
+
+-- the number, from 1, of the record that an ID names, 0 for none
+unfoldable pub named : List Entry → ℕ → ℕ
+named es x = cond (eqb x 65535) 0 (firstOf (idAt es) x (length es))
+
+-- the kind of the record with a number from 1, 0 for none
+abbrev pub kindOf : List Entry → ℕ → ℕ
+kindOf es zero = 0
+kindOf es (suc i) = kindAt es i
+
+-- the number, from 1, of the device element that the parent of a device element names; 0 where the chain ends
+unfoldable pub parentOf : List ℕ → List Entry → ℕ → ℕ
+parentOf p es zero = 0
+parentOf p es (suc i) =
+    let r = named es (elementOf p (startAt es i) .parent) in
+    cond (eqb (kindAt es i) 2 && eqb (kindOf es r) 2) r 0
+
+-- n steps
+unfoldable pub climb : (ℕ → ℕ) → ℕ → ℕ → ℕ
+climb f zero r = r
+climb f (suc n) r = climb f n (f r)
+
+-- the DDI of the record with a number from 1, for process data and properties
+abbrev pub ddiOf : List ℕ → List Entry → ℕ → ℕ
+ddiOf p es zero = 0
+ddiOf p es (suc i) = numberAt 2 p (startAt es i + 5)
+
+abbrev pub isData : ℕ → Bool
+isData k = eqb k 3 || eqb k 4
+
+-- 0 where a record number stands for no process data or property, else its DDI and 1
+unfoldable pub tagOf : List ℕ → List Entry → ℕ → ℕ
+tagOf p es r = cond (isData (kindOf es r)) (suc (ddiOf p es r)) 0
+
+-- whether x is among the first n
+unfoldable pub among : (ℕ → ℕ) → ℕ → ℕ → Bool
+among f x zero = false
+among f x (suc n) = among f x n || eqb (f n) x

@@ -1,0 +1,22 @@
+-- The records of a pool by their number in it, counted from 0. Definitions only.
+use Prim.Native.Nat.{ℕ}
+use mathlib.Core.List.{List}
+use lib.ListN.{getD}
+use Rattle.pool.specs.Reading.{Entry}
+
+-- a record that is not there: it has no kind
+abbrev pub noEntry : Entry
+noEntry = record { start = 0; size = 0; kind = 0; id = 0 }
+
+-- record i, its start and its ID
+abbrev pub recordAt : List Entry → ℕ → Entry
+recordAt es i = getD es i noEntry
+
+abbrev pub startAt : List Entry → ℕ → ℕ
+startAt es i = recordAt es i .start
+
+abbrev pub idAt : List Entry → ℕ → ℕ
+idAt es i = recordAt es i .id
+
+abbrev pub kindAt : List Entry → ℕ → ℕ
+kindAt es i = recordAt es i .kind

@@ -1,0 +1,158 @@
+// What IDs name, by a list under the ID, and chains of parents. The lists are lent: how long they are is the caller's choice.
+ghost use mathlib.Core.Path.{_≡_};
+ghost use mathlib.Core.Bool.{true, false, cond};
+ghost use Prim.Native.Nat.{ℕ, _+_, _*_, _≤_, _<_};
+ghost use lib.Dec.{eqb};
+ghost use lib.ListN.{length, getD};
+ghost use Rattle.pool.specs.Reading.{width};
+ghost use Rattle.naming.specs.Records.{idAt};
+ghost use Rattle.naming.specs.Naming.{numberKey, parentOf};
+ghost use Rattle.naming.specs.Lists.{shown, kindIn, Blank, Indexed, IndexedBelow, Ended};
+ghost use Rattle.naming.specs.Steps.{entered, numberIn, Doubles};
+
+// Puts a record's number under a key that has none yet.
+fn enter(index: &mut [u16], key: u16, number: u16)
+    ensures { λ _. ⌜ now (index .exit) ≡ entered (now (index .entry)) key number ⌝ }
+{
+    let at = key as usize;
+    if at < index.len() {
+        if index[at] == 0 {
+            index[at] = number;
+        }
+    }
+}
+
+// Lists the records by ID. Tells whether the list is long enough for every ID.
+pub fn index_ids(table: &[u16], count: usize, index: &mut [u16]) -> bool
+    requires { ⌜ (count * width ≤ length (now table)) × (count ≤ 8192) × Blank (now index) ⌝ }
+    ensures { λ r. ⌜ (r ≡ true → Indexed (idAt (shown (now (table .entry)) count)) count (now (index .exit))) × (65536 ≤ length (now (index .entry)) → r ≡ true) ⌝ }
+{
+    let mut i: usize = 0;
+    while i < count {
+        let id = table[i * 4 + 3];
+        if index.len() <= id as usize {
+            return false;
+        }
+        enter(index, id, (i + 1) as u16);
+        i += 1;
+    }
+    true
+}
+
+// Puts the number of entry i, if it is a device element's, under its element number. Tells whether the list is long enough for that.
+fn enter_number(p: &[u8], table: &[u16], i: usize, index: &mut [u16]) -> bool
+    requires { ⌜ (i * width + width ≤ length (now table)) × (i < 8192) ⌝ }
+    ensures { λ r. ⌜ (r ≡ true → IndexedBelow 65536 (numberIn (now (p .entry)) (now (table .entry))) i (now (index .entry)) → IndexedBelow 65536 (numberIn (now (p .entry)) (now (table .entry))) (i + 1) (now (index .exit))) × (65536 ≤ length (now (index .entry)) → r ≡ true) ⌝ }
+{
+    if table[i * 4 + 2] != 2 {
+        return true;
+    }
+    let element = records::view::device_element(p, table[i * 4]);
+    if index.len() <= element.number as usize {
+        return false;
+    }
+    enter(index, element.number, (i + 1) as u16);
+    true
+}
+
+// Lists the device elements by element number. Tells whether the list is long enough for every number.
+pub fn index_numbers(p: &[u8], table: &[u16], count: usize, index: &mut [u16]) -> bool
+    requires { ⌜ (count * width ≤ length (now table)) × (count ≤ 8192) × Blank (now index) ⌝ }
+    ensures { λ r. ⌜ (r ≡ true → IndexedBelow 65536 (numberKey (now (p .entry)) (shown (now (table .entry)) count)) count (now (index .exit))) × (65536 ≤ length (now (index .entry)) → r ≡ true) ⌝ }
+{
+    let mut i: usize = 0;
+    while i < count {
+        if !enter_number(p, table, i, index) {
+            return false;
+        }
+        i += 1;
+    }
+    true
+}
+
+// The number of the record that an ID names, by the list; 0 for none.
+pub fn named_at(index: &[u16], id: u16) -> u16
+    ensures { λ r. ⌜ r ≡ cond (eqb id 65535) 0 (getD (now (index .entry)) id 0) ⌝ }
+{
+    if id == 65535 {
+        return 0;
+    }
+    let at = id as usize;
+    if at < index.len() {
+        return index[at];
+    }
+    0
+}
+
+// The kind of the record with a number from 1, by the table; 0 for none.
+pub fn kind_at(table: &[u16], number: u16) -> u16
+    ensures { λ r. ⌜ r ≡ kindIn (now (table .entry)) number ⌝ }
+{
+    if number == 0 {
+        return 0;
+    }
+    let at = (number as usize - 1) * 4 + 2;
+    if at < table.len() {
+        return table[at];
+    }
+    0
+}
+
+// The number of the device element that the parent of record i names, 0 where a chain ends.
+fn parent_at(p: &[u8], table: &[u16], count: usize, index: &[u16], i: usize) -> u16
+    requires { ⌜ (count * width ≤ length (now table)) × (count ≤ 8192) × Indexed (idAt (shown (now table) count)) count (now index) × (i < count) ⌝ }
+    ensures { λ r. ⌜ r ≡ parentOf (now (p .entry)) (shown (now (table .entry)) count) (i + 1) ⌝ }
+{
+    if table[i * 4 + 2] != 2 {
+        return 0;
+    }
+    let element = records::view::device_element(p, table[i * 4]);
+    let parent = named_at(index, element.parent);
+    if kind_at(table, parent) == 2 {
+        return parent;
+    }
+    0
+}
+
+// Puts the parent of each device element under its number.
+fn parents(p: &[u8], table: &[u16], count: usize, index: &[u16], ups: &mut [u16])
+    requires { ⌜ (count * width ≤ length (now table)) × (count ≤ 8192) × Indexed (idAt (shown (now table) count)) count (now index) × (count < length (now ups)) × Blank (now ups) ⌝ }
+    ensures { λ _. ⌜ ((r : ℕ) → r ≤ count → getD (now (ups .exit)) r 0 ≡ parentOf (now (p .entry)) (shown (now (table .entry)) count) r) ⌝ }
+{
+    let mut i: usize = 0;
+    while i < count {
+        ups[i + 1] = parent_at(p, table, count, index, i);
+        i += 1;
+    }
+}
+
+// Replaces each step up by the step from there: at least twice as many. Tells whether a chain is left that has not ended.
+fn jump(ups: &mut [u16], count: usize) -> bool
+    requires { ⌜ (count ≤ 8192) × (count < length (now ups)) × (getD (now ups) 0 0 ≡ 0) × ((r : ℕ) → r ≤ count → getD (now ups) r 0 ≤ count) ⌝ }
+    ensures { λ left. ⌜ Doubles count (now (ups .entry)) (now (ups .exit)) × (left ≡ false → (r : ℕ) → r ≤ count → getD (now (ups .exit)) r 0 ≡ 0) ⌝ }
+{
+    let mut left = false;
+    let mut r: usize = 1;
+    while r <= count {
+        let next = ups[ups[r] as usize];
+        ups[r] = next;
+        left = left | (next != 0);
+        r += 1;
+    }
+    left
+}
+
+// Finds for every record whether its chain of parents ends.
+pub fn chains(p: &[u8], table: &[u16], count: usize, index: &[u16], ups: &mut [u16])
+    requires { ⌜ (count * width ≤ length (now table)) × (count ≤ 8192) × Indexed (idAt (shown (now table) count)) count (now index) × (count < length (now ups)) × Blank (now ups) ⌝ }
+    ensures { λ _. ⌜ Ended (now (p .entry)) (shown (now (table .entry)) count) count (now (ups .exit)) ⌝ }
+{
+    parents(p, table, count, index, ups);
+    let mut steps: usize = 1;
+    while steps < count {
+        if !jump(ups, count) {
+            return;
+        }
+        steps *= 2;
+    }
+}
