@@ -12,7 +12,7 @@ use lib.Dec.{leb}
 use lib.ListN.{length, set, take, length-append}
 use lib.Seq.{sets, length-sets, take-nil}
 use Rattle.faults.specs.Faults.{Fault, fault, numbers, width, flat, written}
-use Rattle.faults.specs.Rows.{Row, one, many, ifSo, upTo, inRows, inRecords}
+use Rattle.faults.specs.Rows.{Row, one, many, ifSo, upTo, inRows, inRecords, Alike, AllAlike}
 use Rattle.faults.specs.Emission.{putAt, puts, Emits, Puts}
 
 -- ---- one list of faults behind another
@@ -118,21 +118,36 @@ puts-turn {n} {u} {k} {t} m p q =
           (emits-same (row-faults n (one u (k + m) (t m)) ∙ one-row n u (k + m) (t m)) (q .emits)));
     }
 
--- tests that agree put the same faults
-pub puts-same : {n u k m : ℕ} {s : ℕ → Bool} (t : ℕ → Bool) {b₀ b : List ℕ} {k₀ k₁ : ℕ} → ((a : ℕ) → a < m → s a ≡ t a)
-    → Puts n (many u k m s ∷ []) b₀ k₀ b k₁ → Puts n (many u k m t ∷ []) b₀ k₀ b k₁
-puts-same {n} {u} {k} {m} {s} t h p =
-    record {
-      emits =
-        emits-same
-        (row-faults n (many u k m s) ∙ up-to-same n u k m m s t m h ∙ sym (row-faults n (many u k m t)))
-        (p .emits);
-    }
-
 -- no record has been looked at
 pub emits-no-records : {b : List ℕ} {k : ℕ} (rows : ℕ → List Row) → Emits b k (inRecords rows 0) b k
 unfolding inRecords
 emits-no-records rows = emits-none
+
+-- rows with the same tests put the same faults
+alike : (n : ℕ) (w v : Row) → Alike w v → upTo n w (w .size) ≡ upTo n v (v .size)
+unfolding upTo
+alike n w v a = go (w .size) (λ (m : ℕ) (l : m < w .size). a .breach m l) ∙ ap (upTo n v) (a .size)
+  where
+    go : (m : ℕ) → ((j : ℕ) → j < m → w .breach j ≡ v .breach j) → upTo n w m ≡ upTo n v m
+    go zero h = refl
+    go (suc m) h = rw (go m (λ (j : ℕ) (l : j < m). h j (omega arith)), h m (omega arith), a .rule, a .first)
+
+all-alike : (n : ℕ) (ws vs : List Row) → AllAlike ws vs → inRows n ws ≡ inRows n vs
+unfolding inRows
+all-alike n [] [] a = refl
+all-alike n [] (v ∷ vs) a = absurd a
+all-alike n (w ∷ ws) [] a = absurd a
+all-alike n (w ∷ ws) (v ∷ vs) a = rw (alike n w v (a .0), all-alike n ws vs (a .1))
+
+pub puts-alike : {n : ℕ} {ws : List Row} (vs : List Row) {b₀ b : List ℕ} {k₀ k : ℕ} → AllAlike ws vs → Puts n ws b₀ k₀ b k → Puts n vs b₀ k₀ b k
+puts-alike {n} {ws} vs a p = record { emits = emits-same (all-alike n ws vs a) (p .emits) }
+
+-- one test that agrees, and many
+pub alike-one : (u k : ℕ) {s t : Bool} → s ≡ t → Alike (one u k s) (one u k t)
+alike-one u k e = record { rule = refl; first = refl; size = refl; breach = λ (m : ℕ) (l : m < 1). e }
+
+pub alike-many : (u k n : ℕ) (s t : ℕ → Bool) → ((m : ℕ) → m < n → s m ≡ t m) → Alike (many u k n s) (many u k n t)
+alike-many u k n s t h = record { rule = refl; first = refl; size = refl; breach = h }
 
 -- an item has at most one fault
 few-if-so : (t : Bool) (f : Fault) → length (ifSo t f) ≤ 1

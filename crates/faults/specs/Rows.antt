@@ -52,6 +52,19 @@ abbrev pub inOrder : List Row → Bool
 inOrder [] = true
 inOrder (w ∷ ws) = precedesAll w ws && inOrder ws
 
+-- rows with the same tests, item by item
+pub record Alike (w v : Row) : Type 0 where
+  pub rule : w .rule ≡ v .rule
+  pub first : w .first ≡ v .first
+  pub size : w .size ≡ v .size
+  pub breach : (m : ℕ) → m < w .size → w .breach m ≡ v .breach m
+
+abbrev pub AllAlike : List Row → List Row → Type 0
+AllAlike [] [] = Unit {0}
+AllAlike [] (v ∷ vs) = ⊥
+AllAlike (w ∷ ws) [] = ⊥
+AllAlike (w ∷ ws) (v ∷ vs) = Alike w v × AllAlike ws vs
+
 -- a fault by its row
 pub record Found (rows : ℕ → List Row) (n : ℕ) (f : Fault) : Type 0 where
   pub row : Row

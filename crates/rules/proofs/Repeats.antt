@@ -1,0 +1,87 @@
+-- A record whose key an earlier one has: rules 2, 3 and 8; a key that no record has: rules 10 and 11. Assumes nothing.
+use mathlib.Core.Path.{_≡_, refl, sym, ap, _∙_}
+use mathlib.Core.Bool.{true, not}
+use mathlib.Core.List.{List}
+use Prim.Native.Nat.{ℕ, zero, suc, _<_}
+use native.Mathlib.Decide.{ℕ-discrete, decLt}
+use native.Mathlib.Omega.{arith}
+use borrow.Author.Tests.{eq-eqb, ne-eqb}
+use lib.Dec.{eqb}
+use Rattle.records.specs.Fields.{elementOf}
+use Rattle.pool.specs.Reading.{Entry}
+use Rattle.naming.specs.Records.{startAt, kindAt}
+use Rattle.naming.specs.Naming.{firstOf, numberKey, typeKey}
+use Rattle.naming.proofs.First.{Without, first-none, first-some, to-none, to-first}
+use Rattle.rules.specs.Table.{repeats, elementKey}
+use Rattle.rules.proofs.Truth.{differ, to-differ}
+
+module _ (key : ℕ → ℕ) (x i n : ℕ) where
+  -- record i has the key and is not the first with it
+  pub repeats-earlier : i < n → key i ≡ x → repeats key x i n ≡ true → (j : ℕ) × (j < i) × (key j ≡ x)
+  unfolding repeats
+  repeats-earlier l k e = go (firstOf key x n) refl
+    where
+      pick : (j : ℕ) → firstOf key x n ≡ suc j → Dec (j < i) → (key j ≡ x) × Without key x j → (j : ℕ) × (j < i) × (key j ≡ x)
+      pick j f (yes b) s = (j, b, s .0)
+      pick j f (no b) s =
+          let other : j ≡ i → ⊥ = λ (q : j ≡ i). differ (firstOf key x n) (suc i) e (f ∙ ap suc q) in
+          absurd (s .1 i (omega arith) k)
+
+      go : (f : ℕ) → firstOf key x n ≡ f → (j : ℕ) × (j < i) × (key j ≡ x)
+      go zero f = absurd (first-none key x n f i l k)
+      go (suc j) f = let s = first-some key x n j f in pick j f (decLt j i) (s .1, s .2)
+
+  pub earlier-repeats : (j : ℕ) → j < i → key j ≡ x → repeats key x i n ≡ true
+  unfolding repeats
+  earlier-repeats j l k = to-differ (firstOf key x n) (suc i) (λ (f : firstOf key x n ≡ suc i). first-some key x n i f .2 j l k)
+
+-- two keys that the same records have
+pub first-alike : (f g : ℕ → ℕ) (x y n : ℕ) → ((j : ℕ) → f j ≡ x → g j ≡ y) → ((j : ℕ) → g j ≡ y → f j ≡ x) → firstOf f x n ≡ firstOf g y n
+first-alike f g x y n to from = go (firstOf f x n) refl
+  where
+    go : (r : ℕ) → firstOf f x n ≡ r → firstOf f x n ≡ firstOf g y n
+    go zero e = e ∙ sym (to-none g y n (λ (j : ℕ) (l : j < n) (q : g j ≡ y). first-none f x n e j l (from j q)))
+    go (suc i) e =
+        let s = first-some f x n i e in
+        e ∙ sym (to-first g y n i (s .0) (to i (s .1)) (λ (j : ℕ) (l : j < i) (q : g j ≡ y). s .2 j l (from j q)))
+
+-- ---- the keys of a device element
+module _ (p : List ℕ) (es : List Entry) (i : ℕ) where
+  pub element-key : kindAt es i ≡ 2 → elementKey p es i ≡ suc (elementOf p (startAt es i) .number)
+  element-key e = rw (eq-eqb (kindAt es i) 2 e)
+
+  pub key-element : (x : ℕ) → elementKey p es i ≡ suc x → (kindAt es i ≡ 2) × (elementOf p (startAt es i) .number ≡ x)
+  key-element x e = go (ℕ-discrete (kindAt es i) 2)
+    where
+      go : Dec (kindAt es i ≡ 2) → (kindAt es i ≡ 2) × (elementOf p (startAt es i) .number ≡ x)
+      go (yes k) = (k, omega (arith, element-key k, e))
+      go (no k) = let z : 0 ≡ suc x = rw (ne-eqb (kindAt es i) 2 k) at e in absurd (omega arith)
+
+  number-key : (x : ℕ) → x < 65536 → numberKey p es i ≡ x → elementKey p es i ≡ suc x
+  number-key x l e = go (ℕ-discrete (kindAt es i) 2)
+    where
+      go : Dec (kindAt es i ≡ 2) → elementKey p es i ≡ suc x
+      go (yes k) = element-key k ∙ ap suc (rw (eq-eqb (kindAt es i) 2 k) at e)
+      go (no k) = let z : 65536 ≡ x = rw (ne-eqb (kindAt es i) 2 k) at e in absurd (omega arith)
+
+  key-number : (x : ℕ) → elementKey p es i ≡ suc x → numberKey p es i ≡ x
+  key-number x e = let k = key-element x e in rw (eq-eqb (kindAt es i) 2 (k .0)) (k .1)
+
+  pub type-key : kindAt es i ≡ 2 → typeKey p es i ≡ elementOf p (startAt es i) .«element_type»
+  type-key e = rw (eq-eqb (kindAt es i) 2 e)
+
+  pub key-type : typeKey p es i ≡ 1 → (kindAt es i ≡ 2) × (elementOf p (startAt es i) .«element_type» ≡ 1)
+  key-type e = go (ℕ-discrete (kindAt es i) 2)
+    where
+      go : Dec (kindAt es i ≡ 2) → (kindAt es i ≡ 2) × (elementOf p (startAt es i) .«element_type» ≡ 1)
+      go (yes k) = (k, sym (type-key k) ∙ e)
+      go (no k) = let z : _≡_ {A = ℕ} 256 1 = rw (ne-eqb (kindAt es i) 2 k) at e in absurd (omega arith)
+
+-- below 65536 an index of element numbers serves for the table's key
+pub first-number : (p : List ℕ) (es : List Entry) (x n : ℕ) → x < 65536 → firstOf (numberKey p es) x n ≡ firstOf (elementKey p es) (suc x) n
+first-number p es x n l =
+    first-alike (numberKey p es) (elementKey p es) x (suc x) n (λ (j : ℕ). number-key p es j x l) (λ (j : ℕ). key-number p es j x)
+
+pub repeats-number : (p : List ℕ) (es : List Entry) (x i n : ℕ) → x < 65536 → repeats (numberKey p es) x i n ≡ repeats (elementKey p es) (suc x) i n
+unfolding repeats
+repeats-number p es x i n l = ap (λ (f : ℕ). not (eqb f (suc i))) (first-number p es x n l)
