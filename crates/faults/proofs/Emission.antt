@@ -112,8 +112,8 @@ pub puts-turn : {n u k : ℕ} {t : ℕ → Bool} {b₀ b₁ b₂ : List ℕ} {k�
 puts-turn {n} {u} {k} {t} m p q =
     record {
       emits =
-        emits-same (sym (row-faults n (many u k (m + 1) t)))
-        (emits-turn n (many u k (m + 1) t) m
+          emits-same (sym (row-faults n (many u k (m + 1) t)))
+          (emits-turn n (many u k (m + 1) t) m
           (emits-same (row-faults n (many u k m t) ∙ up-to-same n u k m (m + 1) t t m (λ (a : ℕ) (l : a < m). refl)) (p .emits))
           (emits-same (row-faults n (one u (k + m) (t m)) ∙ one-row n u (k + m) (t m)) (q .emits)));
     }

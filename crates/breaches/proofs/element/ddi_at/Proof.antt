@@ -1,0 +1,41 @@
+-- `breaches::element::ddi_at` meets its contract. Assumes nothing.
+use mathlib.Core.Path.{_≡_, refl, sym, _∙_}
+use mathlib.Core.List.{List}
+use Prim.Native.Nat.{ℕ, zero, suc, _+_, _-_, _*_}
+use native.Mathlib.Omega.{arith}
+use lib.ListN.{getD}
+use Rattle.wire.specs.Bytes.{numberAt}
+use Rattle.breaches.specs.Lists.{ddiIn}
+use borrow.Author.Needs.{needs}
+use Rattle.breaches.proofs.element.ddi_at.Statement.{statement}
+use Rattle.breaches.proofs.element.ddi_at.Tie as tie
+
+there : (p table : List ℕ) (n : ℕ) → (n ≡ 0 → ⊥) → numberAt 2 p (getD table ((n - 1) * 4) 0 + 5) ≡ ddiIn p table n
+there p table zero h = absurd (h refl)
+there p table (suc i) h = let e : suc i - 1 ≡ i = omega arith in rw e
+
+returns : tie.Need-returns
+returns c = sym (rw (c .if1 .taken))
+
+sub-i : tie.Need-sub-i
+sub-i c = search needs
+
+mul-i : tie.Need-mul-i
+mul-i c = search needs
+
+start-at-requires : tie.Need-start-at-requires
+start-at-requires c κs = search needs
+
+add-read-u16 : tie.Need-add-read-u16
+add-read-u16 c = search needs
+
+read-u16-requires : tie.Need-read-u16-requires
+read-u16-requires c κs = search needs
+
+returns-2 : tie.Need-returns-2
+returns-2 c = c .read-u16 .ensures ∙ rw (c .before .start-at .ensures .0) (there (c .before .before .before .before .before .args .p .now) (c .before .before .before .before .before .args .table .now) (c .before .before .before .before .before .args .number) (c .before .before .if1 .left))
+
+pub ddi-at-spec : {M : Type 1} → statement M
+ddi-at-spec =
+    tie.close
+    (tie.spec returns sub-i mul-i start-at-requires add-read-u16 read-u16-requires returns-2)

@@ -1,0 +1,4 @@
+// The breaches of one record, put into a fault buffer in the order of rules and items.
+mod element;
+mod fields;
+pub mod record;
