@@ -1,0 +1,6 @@
+-- What belongs to no one function.
+pub mod Looking
+pub mod Whole
+pub mod Lists
+pub mod Checked
+pub mod Tries

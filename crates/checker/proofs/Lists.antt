@@ -1,0 +1,20 @@
+-- The lists that a check works with, when they are new. Assumes nothing.
+use mathlib.Core.Path.{_≡_, refl}
+use Prim.Native.Nat.{ℕ, zero, suc, _<_, _≤_}
+use native.Mathlib.Omega.{arith}
+use lib.ListN.{length, getD, replicate, length-replicate}
+use Rattle.naming.specs.Lists.{Blank}
+use Rattle.breaches.specs.Lists.{Lent}
+
+pub blank : (n : ℕ) → Blank (replicate n 0)
+blank zero zero = refl
+blank zero (suc x) = refl
+blank (suc n) zero = refl
+blank (suc n) (suc x) = blank n x
+
+pub lent : (n : ℕ) → n ≤ 32768 → Lent n (replicate n 0) (replicate n 0)
+lent n h =
+    record { entries = omega (arith, length-replicate {A = ℕ} n 0); ddis = omega (arith, length-replicate {A = ℕ} n 0); few = h }
+
+pub long : (n m : ℕ) → m ≤ n → m ≤ length {A = ℕ} (replicate n 0)
+long n m h = omega (arith, length-replicate {A = ℕ} n 0)

@@ -1,0 +1,35 @@
+-- Checking a pool: document 01, the paragraph on checking behind the rule table. Definitions only.
+use Prim.Native.Nat.{ℕ}
+use mathlib.Core.Bool.{Bool, true, false}
+use mathlib.Core.List.{List}
+use lib.Dec.{eqb}
+use lib.ListN.{length}
+use Rattle.pool.specs.Answer.{Answer, answer}
+use Rattle.pool.specs.Reading.{readOf, pick}
+use Rattle.faults.specs.Faults.{written}
+use Rattle.rules.specs.Table.{breachesOf}
+use Rattle.checker.specs.declared.Verdict.{Verdict}
+use Rattle.checker.specs.declared.Verdict.the-variants.{Faults, Empty, TooLong, NoMark, Cut, LengthOver, TooMany, TableShort}
+
+-- number 0 and the full count of faults, or reading's refusal and its place
+abbrev pub verdictOf : Verdict → Answer
+verdictOf (Faults count) = answer 0 count
+verdictOf Empty = answer 1 0
+verdictOf TooLong = answer 2 0
+verdictOf (NoMark at) = answer 3 at
+verdictOf (Cut at) = answer 4 at
+verdictOf (LengthOver at) = answer 5 at
+verdictOf TooMany = answer 6 0
+verdictOf (TableShort needed) = answer 7 needed
+
+-- checking refuses as reading does, or gives the length of the breach list; room is the number of entries that the table has
+unfoldable pub checkOf : List ℕ → ℕ → Answer
+checkOf p room = pick (eqb (readOf p room .number) 0) (answer 0 (length (breachesOf p))) (readOf p room)
+
+abbrev pub pickList : Bool → List ℕ → List ℕ → List ℕ
+pickList true a b = a
+pickList false a b = b
+
+-- the fault buffer after checking: the first faults where the pool is read, else unchanged
+unfoldable pub faultsAfter : List ℕ → ℕ → List ℕ → List ℕ
+faultsAfter p room faults = pickList (eqb (readOf p room .number) 0) (written faults (breachesOf p)) faults

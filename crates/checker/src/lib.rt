@@ -1,0 +1,325 @@
+// Checking a pool against the rule table: the full count of faults, and the first ones in a lent buffer.
+use pool::Outcome;
+ghost use mathlib.Core.Path.{_≡_};
+ghost use mathlib.Core.Bool.{true, cond};
+ghost use Prim.Native.Nat.{ℕ, _+_, _*_, _≤_, _<_};
+ghost use lib.Dec.{eqb};
+ghost use lib.ListN.{length};
+ghost use Rattle.records.specs.Fields.{elementOf};
+ghost use Rattle.pool.specs.Answer.{answerOf};
+ghost use Rattle.pool.specs.Reading.{width, scanOf, entriesIn, readOf, roomOf, tableAfter};
+ghost use Rattle.faults.specs.Emission.{Emits, Puts};
+ghost use Rattle.naming.specs.Records.{kindAt};
+ghost use Rattle.naming.specs.Naming.{firstOf, typeKey};
+ghost use Rattle.naming.specs.Lists.{shown, Blank};
+ghost use Rattle.rules.specs.Table.{poolRows, breachesIn};
+ghost use Rattle.checker.specs.Checking.{verdictOf, checkOf, faultsAfter};
+ghost use Rattle.breaches.specs.Lists.{Prepared, Roomy, Lent};
+ghost use Rattle.checker.specs.Trying.{Told};
+
+// What checking answers: the full count of faults, or why the pool cannot be read and where. The refusals stand in the order
+// of their numbers, 1 to 7.
+pub enum Verdict {
+    Faults(usize),
+    Empty,
+    TooLong,
+    NoMark(usize),
+    Cut(usize),
+    LengthOver(usize),
+    TooMany,
+    TableShort(usize),
+}
+
+// A try with lists of some length: what was counted, or that the lists are too short for this pool.
+enum Tried {
+    Counted(usize),
+    Short,
+}
+
+// The number of the first device, 0 for none.
+fn first_device(table: &[u16], count: usize) -> u16
+    requires { ⌜ (count * width ≤ length (now table)) × (count ≤ 8192) ⌝ }
+    ensures { λ r. ⌜ r ≡ firstOf (kindAt (shown (now (table .entry)) count)) 1 count ⌝ }
+{
+    let mut i: usize = 0;
+    while i < count {
+        if table[i * 4 + 2] == 1 {
+            return (i + 1) as u16;
+        }
+        i += 1;
+    }
+    0
+}
+
+// Whether a record is a device element of type 1.
+fn is_machine(p: &[u8], at: u16, kind: u16) -> bool
+    ensures { λ r. ⌜ r ≡ eqb (cond (eqb kind 2) (elementOf (now (p .entry)) at .«element_type») 256) 1 ⌝ }
+{
+    if kind == 2 {
+        return records::view::device_element(p, at).element_type == 1;
+    }
+    false
+}
+
+// Whether no record is a device element of type 1.
+fn lacks_machine(p: &[u8], table: &[u16], count: usize) -> bool
+    requires { ⌜ (count * width ≤ length (now table)) × (count ≤ 8192) ⌝ }
+    ensures { λ r. ⌜ r ≡ eqb (firstOf (typeKey (now (p .entry)) (shown (now (table .entry)) count)) 1 count) 0 ⌝ }
+{
+    let mut i: usize = 0;
+    while i < count {
+        if is_machine(p, table[i * 4], table[i * 4 + 2]) {
+            return false;
+        }
+        i += 1;
+    }
+    true
+}
+
+// Rules 10 and 11, of the whole pool.
+fn put_pool(p: &[u8], table: &[u16], count: usize, device: u16, faults: &mut [u16]) -> usize
+    requires { ⌜ (count * width ≤ length (now table)) × (count ≤ 8192) × (device ≡ firstOf (kindAt (shown (now table) count)) 1 count) ⌝ }
+    ensures { λ r. ⌜ Puts 0 (poolRows (now (p .entry)) (shown (now (table .entry)) count)) (now (faults .entry)) 0 (now (faults .exit)) r × (r ≤ 2) ⌝ }
+{
+    let n = faults::put_if(device == 0, faults, 0, 0, 10, 1);
+    faults::put_if(lacks_machine(p, table, count), faults, n, 0, 11, 1)
+}
+
+// Every fault of a pool that has been prepared, in order.
+fn put_all(
+    p: &[u8],
+    table: &[u16],
+    count: usize,
+    index: &[u16],
+    numbers: &[u16],
+    ups: &[u16],
+    room: usize,
+    list: &mut [u16],
+    seen: &mut [u16],
+    faults: &mut [u16],
+) -> usize
+    requires { ⌜ Prepared (now p) (now table) count (now index) (now numbers) (now ups) × Roomy (now p) (shown (now table) count) room × Lent room (now list) (now seen) ⌝ }
+    ensures { λ r. ⌜ Emits (now (faults .entry)) 0 (breachesIn (now (p .entry)) (shown (now (table .entry)) count)) (now (faults .exit)) r ⌝ }
+{
+    let device = first_device(table, count);
+    let mut n = put_pool(p, table, count, device, faults);
+    let mut i: usize = 0;
+    while i < count {
+        n = breaches::record::put_record(
+            p,
+            table,
+            count,
+            index,
+            numbers,
+            ups,
+            device,
+            room,
+            list,
+            seen,
+            i,
+            faults,
+            n,
+        );
+        i += 1;
+    }
+    n
+}
+
+// Whether a record's list of entries has room in lists of so many numbers.
+fn fits(p: &[u8], at: u16, kind: u16, room: usize) -> bool
+    ensures { λ r. ⌜ (r ≡ true → kind ≡ 2 → elementOf (now (p .entry)) at .entries ≤ room) × ((kind ≡ 2 → elementOf (now (p .entry)) at .entries ≤ room) → r ≡ true) ⌝ }
+{
+    if kind == 2 {
+        return records::view::device_element(p, at).entries as usize <= room;
+    }
+    true
+}
+
+fn all_fit(p: &[u8], table: &[u16], count: usize, room: usize) -> bool
+    requires { ⌜ (count * width ≤ length (now table)) × (count ≤ 8192) ⌝ }
+    ensures { λ r. ⌜ (r ≡ true → Roomy (now (p .entry)) (shown (now (table .entry)) count) room) × (Roomy (now (p .entry)) (shown (now (table .entry)) count) room → r ≡ true) ⌝ }
+{
+    let mut i: usize = 0;
+    while i < count {
+        if !fits(p, table[i * 4], table[i * 4 + 2], room) {
+            return false;
+        }
+        i += 1;
+    }
+    true
+}
+
+// Finds out what IDs name and which chains end. Tells whether the lists are long enough for this pool.
+fn prepare(
+    p: &[u8],
+    table: &[u16],
+    count: usize,
+    index: &mut [u16],
+    numbers: &mut [u16],
+    ups: &mut [u16],
+    room: usize,
+) -> bool
+    requires { ⌜ (count * width ≤ length (now table)) × (count ≤ 8192) × Blank (now index) × Blank (now numbers) × Blank (now ups) × (count < length (now ups)) ⌝ }
+    ensures { λ r. ⌜ (r ≡ true → Prepared (now (p .entry)) (now (table .entry)) count (now (index .exit)) (now (numbers .exit)) (now (ups .exit)) × Roomy (now (p .entry)) (shown (now (table .entry)) count) room) × (65536 ≤ length (now (index .entry)) → 65536 ≤ length (now (numbers .entry)) → Roomy (now (p .entry)) (shown (now (table .entry)) count) room → r ≡ true) ⌝ }
+{
+    if !all_fit(p, table, count, room) {
+        return false;
+    }
+    if !naming::index_ids(table, count, index) {
+        return false;
+    }
+    if !naming::index_numbers(p, table, count, numbers) {
+        return false;
+    }
+    naming::chains(p, table, count, index, ups);
+    true
+}
+
+// Short lists, for a short pool with small IDs: clearing long ones would take most of the time.
+fn try_short(p: &[u8], table: &[u16], count: usize, faults: &mut [u16]) -> Tried
+    requires { ⌜ (count * width ≤ length (now table)) × (count ≤ 8192) ⌝ }
+    ensures { λ r. ⌜ Told (breachesIn (now (p .entry)) (shown (now (table .entry)) count)) (now (faults .entry)) (now (faults .exit)) r ⌝ }
+{
+    if 127 < count {
+        return Tried::Short;
+    }
+    let mut index = [0u16; 512];
+    let mut numbers = [0u16; 512];
+    let mut ups = [0u16; 128];
+    if !prepare(p, table, count, &mut index, &mut numbers, &mut ups, 128) {
+        return Tried::Short;
+    }
+    let mut list = [0u16; 128];
+    let mut seen = [0u16; 128];
+    Tried::Counted(put_all(
+        p,
+        table,
+        count,
+        &index,
+        &numbers,
+        &ups,
+        128,
+        &mut list,
+        &mut seen,
+        faults,
+    ))
+}
+
+// Lists for a pool of any length with the IDs and element numbers that implements use.
+fn try_middle(p: &[u8], table: &[u16], count: usize, faults: &mut [u16]) -> Tried
+    requires { ⌜ (count * width ≤ length (now table)) × (count ≤ 8192) ⌝ }
+    ensures { λ r. ⌜ Told (breachesIn (now (p .entry)) (shown (now (table .entry)) count)) (now (faults .entry)) (now (faults .exit)) r ⌝ }
+{
+    let mut index = [0u16; 8192];
+    let mut numbers = [0u16; 4096];
+    let mut ups = [0u16; 8193];
+    if !prepare(p, table, count, &mut index, &mut numbers, &mut ups, 1024) {
+        return Tried::Short;
+    }
+    let mut list = [0u16; 1024];
+    let mut seen = [0u16; 1024];
+    Tried::Counted(put_all(
+        p,
+        table,
+        count,
+        &index,
+        &numbers,
+        &ups,
+        1024,
+        &mut list,
+        &mut seen,
+        faults,
+    ))
+}
+
+// Lists for every pool.
+fn count_long(p: &[u8], table: &[u16], count: usize, faults: &mut [u16]) -> usize
+    requires { ⌜ (count * width ≤ length (now table)) × (count ≤ 8192) × Roomy (now p) (shown (now table) count) 32768 ⌝ }
+    ensures { λ r. ⌜ Emits (now (faults .entry)) 0 (breachesIn (now (p .entry)) (shown (now (table .entry)) count)) (now (faults .exit)) r ⌝ }
+{
+    let mut index = [0u16; 65536];
+    let mut numbers = [0u16; 65536];
+    let mut ups = [0u16; 8193];
+    if !prepare(p, table, count, &mut index, &mut numbers, &mut ups, 32768) {
+        return 0;
+    }
+    let mut list = [0u16; 32768];
+    let mut seen = [0u16; 32768];
+    put_all(
+        p,
+        table,
+        count,
+        &index,
+        &numbers,
+        &ups,
+        32768,
+        &mut list,
+        &mut seen,
+        faults,
+    )
+}
+
+// Counts and puts the faults of a pool that has been read into a table, with the shortest lists that do.
+fn count_faults(p: &[u8], table: &[u16], count: usize, faults: &mut [u16]) -> usize
+    requires { ⌜ (count * width ≤ length (now table)) × (count ≤ 8192) × Roomy (now p) (shown (now table) count) 32768 ⌝ }
+    ensures { λ r. ⌜ Emits (now (faults .entry)) 0 (breachesIn (now (p .entry)) (shown (now (table .entry)) count)) (now (faults .exit)) r ⌝ }
+{
+    let short = try_short(p, table, count, faults);
+    if let Tried::Counted(n) = short {
+        return n;
+    }
+    let middle = try_middle(p, table, count, faults);
+    if let Tried::Counted(n) = middle {
+        return n;
+    }
+    count_long(p, table, count, faults)
+}
+
+// Checks a pool: fills the table as reading does, and puts as many faults as fit into the buffer.
+pub fn check(p: &[u8], table: &mut [u16], faults: &mut [u16]) -> Verdict
+    ensures { λ r. ⌜ (verdictOf r ≡ checkOf (now (p .entry)) (roomOf (now (table .entry)))) × (now (table .exit) ≡ tableAfter (now (p .entry)) (now (table .entry))) × (now (faults .exit) ≡ faultsAfter (now (p .entry)) (roomOf (now (table .entry))) (now (faults .entry))) ⌝ }
+{
+    let outcome = pool::read(p, table);
+    match outcome {
+        Outcome::Records(count) => Verdict::Faults(count_faults(p, table, count, faults)),
+        Outcome::Empty => Verdict::Empty,
+        Outcome::TooLong => Verdict::TooLong,
+        Outcome::NoMark(at) => Verdict::NoMark(at),
+        Outcome::Cut(at) => Verdict::Cut(at),
+        Outcome::LengthOver(at) => Verdict::LengthOver(at),
+        Outcome::TooMany => Verdict::TooMany,
+        Outcome::TableShort(needed) => Verdict::TableShort(needed),
+    }
+}
+
+// Document 01's number for what checking answers, 0 where the pool is read.
+pub fn number_of(verdict: Verdict) -> u32
+    ensures { λ r. ⌜ r ≡ verdictOf verdict .number ⌝ }
+{
+    match verdict {
+        Verdict::Faults(_) => 0,
+        Verdict::Empty => 1,
+        Verdict::TooLong => 2,
+        Verdict::NoMark(_) => 3,
+        Verdict::Cut(_) => 4,
+        Verdict::LengthOver(_) => 5,
+        Verdict::TooMany => 6,
+        Verdict::TableShort(_) => 7,
+    }
+}
+
+// The full count of faults, or the refusal's place.
+pub fn value_of(verdict: Verdict) -> usize
+    ensures { λ r. ⌜ r ≡ verdictOf verdict .value ⌝ }
+{
+    match verdict {
+        Verdict::Faults(count) => count,
+        Verdict::Empty => 0,
+        Verdict::TooLong => 0,
+        Verdict::NoMark(at) => at,
+        Verdict::Cut(at) => at,
+        Verdict::LengthOver(at) => at,
+        Verdict::TooMany => 0,
+        Verdict::TableShort(needed) => needed,
+    }
+}
