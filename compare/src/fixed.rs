@@ -1,30 +1,42 @@
 //! Inputs that are the same in every run.
 
+use crate::accepted;
+use crate::breaches::{breach_in_way, WAYS};
+use crate::extremes::extremes;
+use crate::fields;
 use crate::input::{Class, Input, Known};
 use crate::random::Random;
+use crate::realistic::realistic;
 use crate::shape::{Pool, Shape, KINDS, SHORTEST_RECORD};
 use crate::vectors::{self, Vector};
+use crate::verdict::Effort;
 use second::{Kind, MAX_POOL_BYTES};
 use std::io;
 
 /// Fills the free fields of fixed records.
 const FILLING: u64 = 11783;
+const BREACHES_EACH: usize = 100;
 
 pub fn inputs() -> io::Result<Vec<Input>> {
     let vectors = vectors::load()?;
     if vectors.is_empty() {
         return Err(io::Error::other("no pool vectors found"));
     }
+    // Short pools first: the first difference is shown, and is easier to read.
     let mut inputs = Vec::new();
     inputs.extend(worked_lines());
+    inputs.extend(fields::inputs());
     inputs.extend(limits());
     inputs.extend(marks());
-    inputs.extend(edges());
     inputs.extend(cuts(&vectors));
     inputs.extend(changes());
     inputs.extend(vectors.into_iter().map(|vector| {
         Input::new(Class::Vectors, vector.name, vector.pool).knowing(Known::Output(vector.output))
     }));
+    inputs.extend(each_breach());
+    inputs.extend(edges());
+    inputs.extend(realistic_inputs());
+    inputs.extend(extreme_inputs());
     Ok(inputs)
 }
 
@@ -140,9 +152,9 @@ fn marks() -> Vec<Input> {
 fn mark_inputs(start: &[u8]) -> [Input; 3] {
     let input = |name: &str, pool| Input::new(Class::Marks, format!("{start:02X?} {name}"), pool);
     [
-        input("alone", start.to_vec()),
+        input("alone", start.to_vec()).unlisted(),
         input("after P", [&pool_p()[..], start].concat()),
-        input("before zeros", [start, &[0; 40]].concat()),
+        input("before zeros", [start, &[0; 40]].concat()).unlisted(),
     ]
 }
 
@@ -226,6 +238,50 @@ fn cuts(vectors: &[Vector]) -> Vec<Input> {
     inputs
 }
 
+/// Small relatives of the pools that are hard on a checker, and the longest.
+fn extreme_inputs() -> Vec<Input> {
+    let mut inputs = Vec::new();
+    for bytes in [600, 6_000, MAX_POOL_BYTES] {
+        for extreme in extremes(bytes) {
+            let name = format!("{}, {bytes} bytes", extreme.name);
+            let input = Input::of_objects(Class::Extremes, name, extreme.objects);
+            // The longest take long, and only the longest.
+            let is_longest = bytes == MAX_POOL_BYTES;
+            inputs.push(if is_longest {
+                input.with(Effort::Little)
+            } else {
+                input
+            });
+        }
+    }
+    inputs
+}
+
+/// Sound pools as implements send them.
+fn realistic_inputs() -> impl Iterator<Item = Input> {
+    [1_000, 8_000, 32_000, MAX_POOL_BYTES]
+        .into_iter()
+        .map(|size| {
+            let name = format!("realistic, {size} bytes");
+            Input::of_objects(Class::Realistic, name, realistic(size))
+                .knowing(Known::Faults(Vec::new()))
+                .with(Effort::Exhaustive)
+        })
+}
+
+/// Each breach some times, so that a run without seeded pools has all.
+fn each_breach() -> impl Iterator<Item = Input> {
+    (0..BREACHES_EACH * WAYS).map(|index| {
+        let random = &mut Random::for_item(FILLING, index as u64);
+        let mut objects = accepted::objects(random);
+        let fault = breach_in_way(index % WAYS, random, &mut objects);
+        let name = format!("breach {index}");
+        Input::of_objects(Class::Breached, name, objects)
+            .knowing(Known::Fault(fault))
+            .unlisted()
+    })
+}
+
 /// Every byte of some small pools changed to every value, and listed for the
 /// values around limits.
 fn changes() -> Vec<Input> {
@@ -252,6 +308,6 @@ fn change_input(name: &str, pool: &[u8], at: usize, value: u8) -> Input {
     if matches!(value, 0 | 1 | 2 | 32 | 33 | 128 | 129 | 255 | b'D' | b'P') {
         input
     } else {
-        input.unlisted()
+        input.unlisted().with(Effort::Usual)
     }
 }

@@ -1,5 +1,8 @@
 //! Seeded inputs.
 
+use crate::accepted;
+use crate::breaches::breach;
+use crate::crowded;
 use crate::input::{Class, Input, Known};
 use crate::random::Random;
 use crate::shape::{Pool, Shape, KINDS, SHORTEST_RECORD, TEXT_LIMIT};
@@ -8,14 +11,44 @@ use second::{Kind, MAX_POOL_BYTES};
 /// The input of this index in the run of this seed.
 pub fn input(seed: u64, index: u64) -> Input {
     let random = &mut Random::for_item(seed, index);
+    let name = format!("seed {seed} index {index}");
+    match random.below(100) {
+        0..=49 => for_reading(random, name),
+        50..=57 => accepted_input(random, name),
+        58..=84 => breached(random, name),
+        _ => Input::of_objects(Class::Crowded, name, crowded::objects(random)),
+    }
+}
+
+/// Pools whose fields do not matter to reading and are any bytes.
+fn for_reading(random: &mut Random, name: String) -> Input {
     let (class, pool, known) = match random.below(100) {
-        0..=29 => sound(random),
-        30..=59 => (Class::Mutated, mutated(random), Known::Nothing),
-        60..=95 => (Class::Hostile, hostile(random), Known::Nothing),
+        0..=30 => sound(random),
+        31..=61 => (Class::Mutated, mutated(random), Known::Nothing),
+        62..=98 => (Class::Hostile, hostile(random), Known::Nothing),
         _ => large(random),
     };
-    let name = format!("seed {seed} index {index}");
     Input::new(class, name, pool).knowing(known)
+}
+
+fn accepted_input(random: &mut Random, name: String) -> Input {
+    let objects = accepted::objects(random);
+    Input::of_objects(Class::Accepted, name, objects).knowing(Known::Faults(Vec::new()))
+}
+
+/// An accepted pool with one change that breaches a rule, or with some.
+fn breached(random: &mut Random, name: String) -> Input {
+    let mut objects = accepted::objects(random);
+    for _ in 1..random.pick(&[1, 1, 1, 1, 2, 3, 5, 12, 30]) {
+        breach(random, &mut objects);
+    }
+    let fault = breach(random, &mut objects);
+    let input = Input::of_objects(Class::Breached, name, objects);
+    if input.pool.len() <= MAX_POOL_BYTES {
+        input.knowing(Known::Fault(fault))
+    } else {
+        input
+    }
 }
 
 fn sound(random: &mut Random) -> (Class, Vec<u8>, Known) {

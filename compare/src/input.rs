@@ -1,6 +1,8 @@
 //! One input of the comparison.
 
-use second::Record;
+use crate::objects::{pool_of, Object};
+use crate::verdict::Effort;
+use second::{Fault, Record};
 
 /// Where an input comes from; the report has a line for each.
 #[derive(Clone, Copy, Debug, PartialEq, Eq)]
@@ -12,14 +14,20 @@ pub enum Class {
     Edges,
     Cuts,
     Changes,
+    Fields,
+    Realistic,
+    Extremes,
     Sound,
     Mutated,
     Hostile,
     Large,
+    Accepted,
+    Breached,
+    Crowded,
 }
 
 impl Class {
-    pub const ALL: [Class; 11] = [
+    pub const ALL: [Class; 17] = [
         Class::Vectors,
         Class::Worked,
         Class::Limits,
@@ -27,10 +35,16 @@ impl Class {
         Class::Edges,
         Class::Cuts,
         Class::Changes,
+        Class::Fields,
+        Class::Realistic,
+        Class::Extremes,
         Class::Sound,
         Class::Mutated,
         Class::Hostile,
         Class::Large,
+        Class::Accepted,
+        Class::Breached,
+        Class::Crowded,
     ];
 
     pub fn name(self) -> &'static str {
@@ -42,10 +56,16 @@ impl Class {
             Class::Edges => "edges",
             Class::Cuts => "cuts",
             Class::Changes => "changed bytes",
-            Class::Sound => "seeded sound",
+            Class::Fields => "changed fields",
+            Class::Realistic => "realistic",
+            Class::Extremes => "extremes",
+            Class::Sound => "seeded readable",
             Class::Mutated => "seeded mutated",
             Class::Hostile => "seeded hostile",
             Class::Large => "seeded large",
+            Class::Accepted => "seeded accepted",
+            Class::Breached => "seeded breached",
+            Class::Crowded => "seeded crowded",
         }
     }
 }
@@ -54,10 +74,15 @@ pub struct Input {
     pub class: Class,
     pub name: String,
     pub pool: Vec<u8>,
+    /// The records that the pool was written from, if its faults are to be
+    /// counted by what led to them.
+    pub objects: Vec<Object>,
     /// What is known beforehand, as a judge over both sides.
     pub known: Known,
     /// Whether the lister runs too: a process costs far more than a call.
     pub listed: bool,
+    /// How many calls the pool is given to, where its length does not decide.
+    pub effort: Option<Effort>,
 }
 
 pub enum Known {
@@ -66,6 +91,10 @@ pub enum Known {
     Records(Vec<Record>),
     /// The lister owes this output.
     Output(String),
+    /// The pool has just these faults.
+    Faults(Vec<Fault>),
+    /// The pool has this fault.
+    Fault(Fault),
 }
 
 impl Input {
@@ -74,14 +103,31 @@ impl Input {
             class,
             name: name.into(),
             pool,
+            objects: Vec::new(),
             known: Known::Nothing,
             listed: true,
+            effort: None,
+        }
+    }
+
+    pub fn of_objects(class: Class, name: impl Into<String>, objects: Vec<Object>) -> Self {
+        let pool = pool_of(&objects);
+        Input {
+            objects,
+            ..Input::new(class, name, pool)
         }
     }
 
     pub fn unlisted(self) -> Self {
         Input {
             listed: false,
+            ..self
+        }
+    }
+
+    pub fn with(self, effort: Effort) -> Self {
+        Input {
+            effort: Some(effort),
             ..self
         }
     }

@@ -1,6 +1,6 @@
 //! The proved static library, through its C functions.
 
-use second::{Kind, Record, Refusal};
+use second::{Fault, Kind, Record, Refusal};
 
 extern "C" {
     fn lachsbrille_read(
@@ -10,14 +10,28 @@ extern "C" {
         table_len: usize,
         value: *mut usize,
     ) -> u32;
+    fn lachsbrille_check(
+        pool: *const u8,
+        pool_len: usize,
+        table: *mut u16,
+        table_len: usize,
+        faults: *mut u16,
+        faults_len: usize,
+        value: *mut usize,
+    ) -> u32;
     fn lachsbrille_text_is_sound(text: *const u8, text_len: usize) -> bool;
 }
 
 /// Words of a table entry: start, length, kind, ID.
 pub const ENTRY_WORDS: usize = 4;
+/// Words of a fault: record, rule, item.
+pub const FAULT_WORDS: usize = 3;
 
-/// What reading gives: number 0 with the count of records, or a refusal's
-/// number with its place.
+/// No call gives this place: it shows where none was written.
+pub const UNWRITTEN: usize = usize::MAX;
+
+/// What reading and checking give: number 0 with the count of records or
+/// faults, or a refusal's number with its place.
 #[derive(Clone, Copy, Debug, PartialEq, Eq)]
 pub struct Answer {
     pub number: u32,
@@ -26,8 +40,7 @@ pub struct Answer {
 
 /// Reads `pool` with the proved library; the table counts words.
 pub fn read(pool: &[u8], table: &mut [u16]) -> Answer {
-    // No reading gives this value: it shows where none was written.
-    let mut value = usize::MAX;
+    let mut value = UNWRITTEN;
     // SAFETY: the three areas are live and apart for the whole call, and the
     // pointer of an empty slice is not null.
     let number = unsafe {
@@ -36,6 +49,24 @@ pub fn read(pool: &[u8], table: &mut [u16]) -> Answer {
             pool.len(),
             table.as_mut_ptr(),
             table.len(),
+            &mut value,
+        )
+    };
+    Answer { number, value }
+}
+
+/// Checks `pool` with the proved library; table and faults count words.
+pub fn check(pool: &[u8], table: &mut [u16], faults: &mut [u16]) -> Answer {
+    let mut value = UNWRITTEN;
+    // SAFETY: as for reading, with the faults as a fourth area.
+    let number = unsafe {
+        lachsbrille_check(
+            pool.as_ptr(),
+            pool.len(),
+            table.as_mut_ptr(),
+            table.len(),
+            faults.as_mut_ptr(),
+            faults.len(),
             &mut value,
         )
     };
@@ -73,4 +104,9 @@ pub fn words_of(record: &Record) -> [u16; ENTRY_WORDS] {
         Kind::Dvp => 5,
     };
     [record.start, record.length, kind, record.id]
+}
+
+/// The same fault as the library would write it.
+pub fn words_of_fault(fault: &Fault) -> [u16; FAULT_WORDS] {
+    [fault.record, fault.rule.into(), fault.item]
 }

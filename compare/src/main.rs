@@ -1,18 +1,31 @@
 //! Compares the proved library and lister with the second implementation.
 
+mod accepted;
 mod bench;
+mod breaches;
+mod calls;
+mod census;
+mod crowded;
+mod extremes;
+mod fields;
 mod fixed;
 mod generated;
 mod input;
+mod lent;
 mod library;
 mod lister;
+mod objects;
+#[cfg(feature = "queries")]
+mod queries;
 mod random;
-mod reading;
+mod realistic;
 mod run;
 mod shape;
 mod tally;
 mod texts;
 mod vectors;
+mod verdict;
+mod wording;
 
 use run::Options;
 use std::env;
@@ -70,6 +83,7 @@ fn parse(mut arguments: impl Iterator<Item = String>) -> Result<Options, String>
         seed,
         pools: pools.unwrap_or(usual_pools),
         listed,
+        long,
     })
 }
 

@@ -1,19 +1,29 @@
 //! The differential run.
 
+use crate::calls::{self, Compared};
+use crate::census::Census;
 use crate::fixed;
 use crate::generated;
 use crate::input::{Input, Known};
+use crate::lent::LentPool;
 use crate::lister::Lister;
-use crate::reading::{table_lengths, Reading};
+#[cfg(feature = "queries")]
+use crate::queries::queries;
 use crate::tally::Tallies;
 use crate::texts::{self, Report};
-use second::Record;
+use crate::verdict::{Effort, Verdict};
 use std::fs;
 use std::io;
 use std::path::PathBuf;
 
 /// Below the repository's root.
 const DUMP: &str = "target/compare-difference.hex";
+/// Longer pools are given to fewer calls, unless the run is a long one.
+const SHORT_POOL: usize = 2_000;
+/// The faults of longer pools, or of pools with more, are not counted: to find
+/// what led to them would take long.
+const LONGEST_COUNTED: usize = 16_000;
+const MOST_COUNTED: usize = 1_000;
 
 pub struct Options {
     pub lister: PathBuf,
@@ -22,11 +32,12 @@ pub struct Options {
     pub pools: u64,
     /// How many of them are listed too.
     pub listed: u64,
+    pub long: bool,
 }
 
 /// Runs everything, prints the report and tells whether all agreed.
 pub fn run(options: Options) -> io::Result<bool> {
-    let mut run = Run::new(Lister::new(options.lister));
+    let mut run = Run::new(Lister::new(options.lister), options.long);
     for input in fixed::inputs()? {
         run.compare(&input);
     }
@@ -42,53 +53,95 @@ pub fn run(options: Options) -> io::Result<bool> {
 
 struct Run {
     lister: Lister,
+    long: bool,
     tallies: Tallies,
+    census: Census,
     differences: u64,
 }
 
 impl Run {
-    fn new(lister: Lister) -> Self {
+    fn new(lister: Lister, long: bool) -> Self {
         Run {
             lister,
+            long,
             tallies: Tallies::default(),
+            census: Census::new(),
             differences: 0,
         }
     }
 
     fn compare(&mut self, input: &Input) {
-        self.tallies.of(input.class).inputs += 1;
-        self.compare_with_known(input);
-        self.compare_with_library(input);
+        let verdict = Verdict::of(&input.pool);
+        self.tallies.of(input.class).count_input(&verdict);
+        if is_counted(input, &verdict) {
+            self.census.count(&input.objects, &verdict.faults);
+        }
+        self.compare_with_known(input, &verdict);
+        self.compare_with_library(input, &verdict);
         if input.listed {
             self.compare_with_lister(input);
         }
     }
 
     /// Holds the second implementation itself to what is known beforehand.
-    fn compare_with_known(&mut self, input: &Input) {
+    fn compare_with_known(&mut self, input: &Input, verdict: &Verdict) {
         let agrees = match &input.known {
             Known::Nothing => true,
             Known::Output(output) => second::list(&input.pool) == *output,
-            Known::Records(records) => {
-                let mut table = vec![Record::default(); records.len()];
-                second::read_pool(&input.pool, &mut table) == Ok(records.len()) && table == *records
-            }
+            Known::Records(records) => verdict.records == *records,
+            Known::Faults(faults) => !verdict.is_refused() && verdict.faults == *faults,
+            Known::Fault(fault) => verdict.faults.contains(fault),
         };
         if !agrees {
             self.note(input, "the second implementation parts from what is known");
         }
     }
 
-    fn compare_with_library(&mut self, input: &Input) {
-        for words in table_lengths(&input.pool) {
-            let second = Reading::by_second(&input.pool, words);
-            let library = Reading::by_library(&input.pool, words);
-            let tally = self.tallies.of(input.class);
-            tally.calls += 1;
-            tally.numbers[second.answer.number as usize] += 1;
-            if let Some(what) = library.difference_from(&second) {
-                self.note(input, &format!("library, table of {words} words: {what}"));
-            }
+    fn compare_with_library(&mut self, input: &Input, verdict: &Verdict) {
+        let pool = &LentPool::new(&input.pool);
+        let effort = self.effort(input);
+        for table in verdict.tables(effort) {
+            self.take(input, calls::read(pool, table), || {
+                format!("reading, table of {table} words")
+            });
+        }
+        for (table, faults) in verdict.lists(effort) {
+            self.take(input, calls::check(pool, table, faults), || {
+                format!("checking, table of {table} words, faults of {faults}")
+            });
+        }
+        #[cfg(feature = "queries")]
+        self.compare_queries(input, verdict, pool);
+    }
+
+    fn effort(&self, input: &Input) -> Effort {
+        let by_length = if input.pool.len() <= SHORT_POOL {
+            Effort::Full
+        } else {
+            Effort::Usual
+        };
+        let effort = input.effort.unwrap_or(by_length);
+        if self.long {
+            effort.max(Effort::Full)
+        } else {
+            effort
+        }
+    }
+
+    #[cfg(feature = "queries")]
+    fn compare_queries(&mut self, input: &Input, verdict: &Verdict, pool: &LentPool) {
+        for (query, table) in queries(verdict, self.effort(input)) {
+            self.take(input, query.compare(pool, table), || {
+                format!("{query:?}, table of {table} words")
+            });
+        }
+    }
+
+    /// Counts a call of both sides and notes where they part.
+    fn take(&mut self, input: &Input, compared: Compared, call: impl FnOnce() -> String) {
+        self.tallies.of(input.class).count_call(compared.number);
+        if let Some(what) = compared.difference {
+            self.note(input, &format!("{}: {what}", call()));
         }
     }
 
@@ -123,19 +176,26 @@ impl Run {
 
     fn report(&self, texts: &Report) -> bool {
         self.tallies.print();
-        let unseen = self.tallies.unseen();
-        for number in &unseen {
-            println!("compare: refusal {number} was never seen");
-        }
+        self.census.print();
         println!("texts: {} compared, {} sound", texts.compared, texts.sound);
         if let Some(text) = &texts.first {
             println!("first text that differs: {}", hex(text));
         }
-        let inputs = self.tallies.total().inputs + texts.compared;
+        let unseen = [self.tallies.unseen(), self.census.unseen()].concat();
+        for what in &unseen {
+            println!("compare: {what} was never seen");
+        }
+        let inputs = self.tallies.inputs() + texts.compared;
         let differences = self.differences + texts.differences;
         println!("compare: {inputs} inputs, {differences} differences");
         differences == 0 && unseen.is_empty()
     }
+}
+
+fn is_counted(input: &Input, verdict: &Verdict) -> bool {
+    !input.objects.is_empty()
+        && input.pool.len() <= LONGEST_COUNTED
+        && verdict.faults.len() <= MOST_COUNTED
 }
 
 /// Shows the first line at which two outputs part.

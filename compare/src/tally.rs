@@ -1,23 +1,52 @@
 //! What was compared, counted by class.
 
 use crate::input::Class;
+use crate::verdict::Verdict;
 
-/// Refusal 6 is out of reach: the most records a pool holds are 5,461.
-const REACHABLE: [usize; 6] = [1, 2, 3, 4, 5, 7];
+/// What calls answer: 0 or a refusal.
+const NUMBERS: &[u32] = &[
+    0,
+    1,
+    2,
+    3,
+    4,
+    5,
+    6,
+    7,
+    #[cfg(feature = "queries")]
+    24,
+    #[cfg(feature = "queries")]
+    28,
+];
+/// Out of reach: the most records a pool holds are 5,461.
+const MANY_RECORDS: u32 = 6;
 
 #[derive(Clone, Copy, Default)]
 pub struct Tally {
-    pub inputs: u64,
-    pub calls: u64,
+    inputs: u64,
+    accepted: u64,
+    faulty: u64,
     pub listings: u64,
-    /// Calls by number: 0 for a pool that was read, else the refusal.
-    pub numbers: [u64; 8],
+    /// Calls of the library by their number.
+    numbers: [u64; NUMBERS.len()],
 }
 
 impl Tally {
+    pub fn count_input(&mut self, verdict: &Verdict) {
+        self.inputs += 1;
+        self.accepted += u64::from(verdict.is_accepted());
+        self.faulty += u64::from(!verdict.faults.is_empty());
+    }
+
+    pub fn count_call(&mut self, number: u32) {
+        let place = NUMBERS.iter().position(|&it| it == number);
+        self.numbers[place.expect("a number of the rules")] += 1;
+    }
+
     fn add(&mut self, other: &Tally) {
         self.inputs += other.inputs;
-        self.calls += other.calls;
+        self.accepted += other.accepted;
+        self.faulty += other.faulty;
         self.listings += other.listings;
         for (sum, count) in self.numbers.iter_mut().zip(other.numbers) {
             *sum += count;
@@ -25,11 +54,16 @@ impl Tally {
     }
 
     fn print(&self, name: &str) {
-        print!(
-            "{name:<15}{:>9}{:>10}{:>9}",
-            self.inputs, self.calls, self.listings
-        );
-        for count in self.numbers {
+        let calls: u64 = self.numbers.iter().sum();
+        print!("{name:<16}");
+        let counts = [
+            self.inputs,
+            self.accepted,
+            self.faulty,
+            self.listings,
+            calls,
+        ];
+        for count in counts.into_iter().chain(self.numbers) {
             print!("{count:>9}");
         }
         println!();
@@ -46,20 +80,23 @@ impl Tallies {
         &mut self.by_class[class as usize]
     }
 
-    pub fn total(&self) -> Tally {
+    fn total(&self) -> Tally {
         let mut total = Tally::default();
         self.by_class.iter().for_each(|tally| total.add(tally));
         total
     }
 
+    pub fn inputs(&self) -> u64 {
+        self.total().inputs
+    }
+
     pub fn print(&self) {
-        print!(
-            "{:<15}{:>9}{:>10}{:>9}",
-            "class", "inputs", "calls", "listed"
-        );
-        print!("{:>9}", "read");
-        for number in 1..=7 {
-            print!("{:>9}", format!("ref. {number}"));
+        print!("{:<16}", "class");
+        for name in ["inputs", "accepted", "faulty", "listed", "calls"] {
+            print!("{name:>9}");
+        }
+        for number in NUMBERS {
+            print!("{:>9}", format!("gave {number}"));
         }
         println!();
         for class in Class::ALL {
@@ -68,12 +105,12 @@ impl Tallies {
         self.total().print("all");
     }
 
-    /// Refusals that the inputs should have met and did not.
-    pub fn unseen(&self) -> Vec<usize> {
-        let numbers = self.total().numbers;
-        REACHABLE
-            .into_iter()
-            .filter(|&number| numbers[number] == 0)
+    /// Answers that the inputs should have met and did not.
+    pub fn unseen(&self) -> Vec<String> {
+        let counts = NUMBERS.iter().copied().zip(self.total().numbers);
+        counts
+            .filter(|&(number, count)| number != MANY_RECORDS && count == 0)
+            .map(|(number, _)| format!("a call that gives {number}"))
             .collect()
     }
 }

@@ -29,7 +29,6 @@ fn is_pool(path: &Path) -> bool {
 }
 
 fn load_one(path: &Path) -> io::Result<Vector> {
-    let output = fs::read_to_string(path.with_extension("lister.txt"))?;
     Ok(Vector {
         name: path
             .file_stem()
@@ -37,19 +36,8 @@ fn load_one(path: &Path) -> io::Result<Vector> {
             .to_string_lossy()
             .into(),
         pool: parse_hex(&fs::read_to_string(path)?)?,
-        output: without_verdict(&output),
+        output: fs::read_to_string(path.with_extension("lister.txt"))?,
     })
-}
-
-/// The vectors hold the lister's whole output, but the lister does not check
-/// yet. To be dropped as soon as it prints its verdict.
-fn without_verdict(output: &str) -> String {
-    let is_verdict = |line: &&str| *line == "accepted" || line.starts_with("fault ");
-    output
-        .lines()
-        .filter(|line| !is_verdict(line))
-        .map(|line| format!("{line}\n"))
-        .collect()
 }
 
 fn parse_hex(text: &str) -> io::Result<Vec<u8>> {

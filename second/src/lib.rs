@@ -13,7 +13,7 @@ mod rules;
 mod texts;
 
 pub use faults::Fault;
-pub use lister::{list, LISTER_ENTRIES};
+pub use lister::list;
 pub use pool::{read_pool, Kind, Record, Refusal, MAX_POOL_BYTES, MAX_RECORDS};
 pub use queries::{labels, text, Labels};
 pub use rules::check;

@@ -10,8 +10,12 @@ device =
     ++ replicate 8 0 ++ 0 ∷ []
     ++ replicate 7 1 ++ 0x65 ∷ 0x6E ∷ 0 ∷ 0 ∷ 0 ∷ 0 ∷ 0xFF ∷ 0 ∷ []
 
+-- P, with this number as the parent of its device element
+abbrev pub poolWith : ℕ → List ℕ
+poolWith parent = device ++ 0x44 ∷ 0x45 ∷ 0x54 ∷ 1 ∷ 0 ∷ 1 ∷ 0 ∷ 0 ∷ 0 ∷ parent ∷ 0 ∷ 0 ∷ 0 ∷ []
+
 abbrev pub poolP : List ℕ
-poolP = device ++ 0x44 ∷ 0x45 ∷ 0x54 ∷ 1 ∷ 0 ∷ 1 ∷ 0 ∷ 0 ∷ 0 ∷ 0 ∷ 0 ∷ 0 ∷ 0 ∷ []
+poolP = poolWith 0
 
 abbrev pub poolQ : List ℕ
 poolQ =

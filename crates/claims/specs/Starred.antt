@@ -6,7 +6,10 @@ use mathlib.Core.List.{List, [], _∷_}
 use lib.ListN.{take}
 use Rattle.pool.specs.Answer.{Answer, answer}
 use Rattle.pool.specs.Reading.{readOf}
-use Rattle.claims.specs.Pools.{poolQ, named}
+use Rattle.faults.specs.Faults.{Fault, fault}
+use Rattle.rules.specs.Table.{breachesOf}
+use Rattle.checker.specs.Checking.{checkOf}
+use Rattle.claims.specs.Pools.{poolWith, poolP, poolQ, named}
 
 -- a case: what is computed, and what it has to be
 pub record Case : Type 1 where
@@ -17,6 +20,14 @@ pub record Case : Type 1 where
 abbrev pub reads : List ℕ → Answer → Case
 reads p a = record { of = Answer; is = readOf p 2048; due = a }
 
+-- checking, with a table of 2,048 entries
+abbrev pub checks : List ℕ → Answer → Case
+checks p a = record { of = Answer; is = checkOf p 2048; due = a }
+
+-- the breach list
+abbrev pub breaches : List ℕ → List Fault → Case
+breaches p fs = record { of = List Fault; is = breachesOf p; due = fs }
+
 abbrev pub cases : List Case
 cases =
     -- the empty pool is refused with 1
@@ -25,6 +36,18 @@ cases =
     ∷ reads (take 70 poolQ) (answer 4 59)
     -- a designator length of 129 is over its limit, at the length byte: 5
     ∷ reads (named 129) (answer 5 5)
+    -- P and Q have no fault
+    ∷ checks poolP (answer 0 0)
+    ∷ checks poolQ (answer 0 0)
+    -- the first 31 bytes of P, its device, lack a device element of type 1
+    ∷ checks (take 31 poolP) (answer 0 1)
+    ∷ breaches (take 31 poolP) (fault 0 11 1 ∷ [])
+    -- in the first 59 bytes of Q the entry of the third record names nothing
+    ∷ checks (take 59 poolQ) (answer 0 1)
+    ∷ breaches (take 59 poolQ) (fault 3 6 2 ∷ [])
+    -- P with the parent 1: its device element's chain never ends
+    ∷ checks (poolWith 1) (answer 0 1)
+    ∷ breaches (poolWith 1) (fault 2 9 1 ∷ [])
     ∷ []
 
 -- every case of a list holds

@@ -1,11 +1,16 @@
-// The claims about reading. The functions do nothing: their contracts are the claims, so that the check's report names them.
+// The claims about reading and checking. The functions do nothing: their contracts are the claims, so that the check's report names them.
 ghost use mathlib.Core.List.{List};
 ghost use Prim.Native.Nat.{ℕ};
 ghost use Rattle.claims.specs.Reads.{Reads};
+ghost use Rattle.claims.specs.Checks.{Checks};
 ghost use Rattle.claims.specs.Starred.{cases, Hold};
 
 pub fn reading_is_division()
     ensures { λ _. ⌜ ((p : List ℕ) (room : ℕ) → Reads p room) ⌝ }
+{}
+
+pub fn checking_lists_breaches()
+    ensures { λ _. ⌜ Checks ⌝ }
 {}
 
 pub fn starred_cases_hold()

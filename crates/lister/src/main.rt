@@ -1,8 +1,9 @@
-// Lists a pool from standard input: its records, or the one number and place at which it is refused.
+// Lists a pool from standard input: its records, and that it is accepted or its first faults; or the one number and place at
+// which it is refused.
+use checker::Verdict;
 use libc::STDERR_FILENO;
 use libc::STDIN_FILENO;
 use libc::STDOUT_FILENO;
-use pool::Outcome;
 
 mod text;
 
@@ -86,30 +87,63 @@ fn list_records(table: &[u16], count: usize, out: &mut [u8], from: usize) -> usi
     at
 }
 
-// Lists a pool into lent memory and to standard output.
-fn list(p: &[u8], table: &mut [u16], out: &mut [u8]) {
-    let outcome = pool::read(p, table);
-    if let Outcome::Records(count) = outcome {
+// The line of each fault, as far as the buffer has them.
+fn list_faults(faults: &[u16], count: usize, out: &mut [u8], from: usize) -> usize
+    ensures { λ r. ⌜ length (now (out .exit)) ≡ length (now (out .entry)) ⌝ }
+{
+    let mut at = from;
+    let mut i: usize = 0;
+    let mut left = count;
+    while 0 < left {
+        if faults.len() - i < 3 {
+            return at;
+        }
+        at = make_room(out, at);
+        at = text::put_fault(out, at, faults[i], faults[i + 1], faults[i + 2]);
+        i += 3;
+        left -= 1;
+    }
+    at
+}
+
+// What checking found, given how many faults there are.
+fn list_findings(faults: &[u16], count: usize, out: &mut [u8], from: usize) -> usize
+    ensures { λ r. ⌜ length (now (out .exit)) ≡ length (now (out .entry)) ⌝ }
+{
+    if count == 0 {
+        let at = make_room(out, from);
+        return text::put_accepted(out, at);
+    }
+    list_faults(faults, count, out, from)
+}
+
+// Lists a pool into lent memory and to standard output. A pool that has been checked is read as well, so that the value of
+// a further reading is the count of its records.
+fn list(p: &[u8], table: &mut [u16], faults: &mut [u16], out: &mut [u8]) {
+    let verdict = checker::check(p, table, faults);
+    if let Verdict::Faults(found) = verdict {
+        let count = pool::value_of(pool::read(p, table));
         let first = text::put_records(out, 0, count as u64);
-        let end = list_records(table, count, out, first);
+        let next = list_records(table, count, out, first);
+        let end = list_findings(faults, found, out, next);
         flush(out, end);
         return;
     }
     let end = text::put_refused(
         out,
         0,
-        pool::number_of(outcome) as u64,
-        pool::value_of(outcome) as u64,
+        checker::number_of(verdict) as u64,
+        checker::value_of(verdict) as u64,
     );
     flush(out, end);
 }
 
-fn run(input: &mut [u8], table: &mut [u16], out: &mut [u8]) {
+fn run(input: &mut [u8], table: &mut [u16], faults: &mut [u16], out: &mut [u8]) {
     let got = read_input(input);
     match got {
         Input::Bytes(n) => {
             if n <= input.len() {
-                list(&input[0..n], table, out);
+                list(&input[0..n], table, faults, out);
             }
         }
         Input::Failed => {
@@ -118,10 +152,12 @@ fn run(input: &mut [u8], table: &mut [u16], out: &mut [u8]) {
     }
 }
 
-// One byte more than a pool may have shows that an input is too long; the table has 2,048 entries.
+// One byte more than a pool may have shows that an input is too long; the table has 2,048 entries, and
+// the buffer of faults 1,024.
 fn main() {
     let mut input = [0u8; 65536];
     let mut table = [0u16; 8192];
+    let mut faults = [0u16; 3072];
     let mut out = [0u8; 65536];
-    run(&mut input, &mut table, &mut out);
+    run(&mut input, &mut table, &mut faults, &mut out);
 }

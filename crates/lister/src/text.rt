@@ -66,6 +66,26 @@ pub fn put_record(out: &mut [u8], at: usize, start: u16, size: u16, kind: u16, i
     put(out, g, b'\n')
 }
 
+// A fault's line.
+pub fn put_fault(out: &mut [u8], at: usize, record: u16, rule: u16, item: u16) -> usize
+    ensures { λ r. ⌜ length (now (out .exit)) ≡ length (now (out .entry)) ⌝ }
+{
+    let a = put_all(out, at, b"fault ");
+    let b = put_number(out, a, record as u64);
+    let c = put(out, b, b' ');
+    let d = put_number(out, c, rule as u64);
+    let e = put(out, d, b' ');
+    let f = put_number(out, e, item as u64);
+    put(out, f, b'\n')
+}
+
+// The line of a pool without faults.
+pub fn put_accepted(out: &mut [u8], at: usize) -> usize
+    ensures { λ r. ⌜ length (now (out .exit)) ≡ length (now (out .entry)) ⌝ }
+{
+    put_all(out, at, b"accepted\n")
+}
+
 // A line of a word and one or two numbers.
 pub fn put_records(out: &mut [u8], at: usize, count: u64) -> usize
     ensures { λ r. ⌜ length (now (out .exit)) ≡ length (now (out .entry)) ⌝ }

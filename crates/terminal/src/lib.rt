@@ -2,6 +2,7 @@
 ghost use mathlib.Core.Path.{_≡_};
 ghost use Rattle.pool.specs.Reading.{readOf, roomOf, tableAfter};
 ghost use Rattle.text.specs.Examined.{soundText};
+ghost use Rattle.checker.specs.Checking.{checkOf, faultsAfter};
 ghost use Rattle.terminal.specs.Numbers.{Says};
 
 #[no_mangle]
@@ -11,6 +12,21 @@ pub extern "C" fn lachsbrille_read(p: &[u8], table: &mut [u16], value: &mut usiz
     let outcome = pool::read(p, table);
     *value = pool::value_of(outcome);
     pool::number_of(outcome)
+}
+
+// Checks a pool: the full count of faults or the refusal's place goes into the lent number.
+#[no_mangle]
+pub extern "C" fn lachsbrille_check(
+    p: &[u8],
+    table: &mut [u16],
+    faults: &mut [u16],
+    value: &mut usize,
+) -> u32
+    ensures { λ r. ⌜ Says (checkOf (now (p .entry)) (roomOf (now (table .entry)))) r (now (value .exit)) × (now (table .exit) ≡ tableAfter (now (p .entry)) (now (table .entry))) × (now (faults .exit) ≡ faultsAfter (now (p .entry)) (roomOf (now (table .entry))) (now (faults .entry))) ⌝ }
+{
+    let verdict = checker::check(p, table, faults);
+    *value = checker::value_of(verdict);
+    checker::number_of(verdict)
 }
 
 // Whether a text keeps rule 4.

@@ -1,4 +1,4 @@
-//! Lists the records of the pool on standard input.
+//! Lists the records of the pool on standard input, and its faults.
 
 use std::io::{self, Read, Write};
 

@@ -1,0 +1,109 @@
+//! A pool with all that either side needs for it.
+
+use super::keep;
+use super::times::time;
+use crate::calls;
+use crate::lent::LentPool;
+use crate::library::{self, ENTRY_WORDS, FAULT_WORDS};
+use crate::objects::{pool_of, Object};
+#[cfg(feature = "queries")]
+use crate::queries::Query;
+use crate::verdict::Verdict;
+use second::{Fault, Record};
+use std::hint::black_box;
+
+/// As many faults as the lister prints.
+const FAULTS: usize = 1_024;
+
+#[derive(Clone, Copy)]
+pub enum Work {
+    Read,
+    Check,
+    #[cfg(feature = "queries")]
+    Query(Query),
+}
+
+pub struct Case {
+    pub pool: Vec<u8>,
+    records: usize,
+    /// All faults of the pool.
+    faults: usize,
+    table_words: Vec<u16>,
+    fault_words: Vec<u16>,
+    table: Vec<Record>,
+    buffer: Vec<Fault>,
+}
+
+impl Case {
+    pub fn new(objects: &[Object]) -> Self {
+        let pool = pool_of(objects);
+        let verdict = Verdict::of(&pool);
+        let records = verdict.records.len();
+        Case {
+            pool,
+            records,
+            faults: verdict.faults.len(),
+            table_words: vec![0; ENTRY_WORDS * records],
+            fault_words: vec![0; FAULT_WORDS * FAULTS],
+            table: vec![Record::default(); records],
+            buffer: vec![Fault::default(); FAULTS],
+        }
+    }
+
+    /// Has both sides do the work once and compares all of it.
+    pub fn compare(&self, work: Work) -> Result<(), String> {
+        let pool = LentPool::new(&self.pool);
+        let table = self.table_words.len();
+        let compared = match work {
+            Work::Read => calls::read(&pool, table),
+            Work::Check => calls::check(&pool, table, FAULT_WORDS * (self.faults + 1)),
+            #[cfg(feature = "queries")]
+            Work::Query(query) => query.compare(&pool, table),
+        };
+        match compared.difference {
+            None => Ok(()),
+            Some(difference) => {
+                let bytes = self.pool.len();
+                Err(format!("a pool of {bytes} bytes: {difference}"))
+            }
+        }
+    }
+
+    pub fn time_library(&mut self, work: Work, calls: usize) -> f64 {
+        time(calls, || self.by_library(work))
+    }
+
+    pub fn time_second(&mut self, work: Work, calls: usize) -> f64 {
+        time(calls, || self.by_second(work))
+    }
+
+    fn by_library(&mut self, work: Work) {
+        let pool = black_box(&self.pool[..]);
+        let table = black_box(&mut self.table_words[..]);
+        let faults = black_box(&mut self.fault_words[..]);
+        match work {
+            Work::Read => keep(library::read(pool, table)),
+            Work::Check => keep(library::check(pool, table, faults)),
+            #[cfg(feature = "queries")]
+            Work::Query(query) => query.by_library(pool, table),
+        }
+    }
+
+    fn by_second(&mut self, work: Work) {
+        let pool = black_box(&self.pool[..]);
+        let table = black_box(&mut self.table[..]);
+        let faults = black_box(&mut self.buffer[..]);
+        match work {
+            Work::Read => keep(second::read_pool(pool, table)),
+            Work::Check => keep(second::check(pool, table, faults)),
+            #[cfg(feature = "queries")]
+            Work::Query(query) => query.by_second(pool, table),
+        }
+    }
+
+    /// Prints the first columns of a line.
+    pub fn print(&self, name: &str) {
+        let bytes = self.pool.len();
+        print!("{name:>28}{bytes:>8}{:>9}{:>8}", self.records, self.faults);
+    }
+}

@@ -1,0 +1,31 @@
+//! Times the library against the second implementation.
+
+mod case;
+mod extremes;
+#[cfg(feature = "queries")]
+mod queries;
+mod sound;
+mod texts;
+mod times;
+
+use case::Work;
+use std::hint::black_box;
+
+/// Prints all tables and tells whether both sides did all work alike.
+pub fn bench() -> bool {
+    texts::bench();
+    let outcome = sound::bench("reading", Work::Read, 101)
+        .and_then(|()| sound::bench("check", Work::Check, 31))
+        .and_then(|()| extremes::bench());
+    #[cfg(feature = "queries")]
+    let outcome = outcome.and_then(|()| queries::bench());
+    if let Err(difference) = &outcome {
+        println!("bench: the sides do not agree about {difference}");
+    }
+    outcome.is_ok()
+}
+
+/// Sees to it that an answer is worked out, though nobody looks at it.
+pub fn keep<Answer>(answer: Answer) {
+    let _ = black_box(answer);
+}

@@ -1,0 +1,389 @@
+//! Changes to a pool's records, each of which breaches a rule for certain.
+
+use crate::accepted::{fresh, unused_id};
+use crate::objects::{named, Object, GREATEST_NUMBER, GREATEST_SCALE, LEAST_SCALE, NO_REFERENCE};
+use crate::random::Random;
+use crate::shape::KINDS;
+use crate::wording::unsound_text;
+use second::{Fault, Kind};
+
+/// Gives a fault that the changed pool has; others may follow from it.
+type Breach = fn(&mut Random, &mut Vec<Object>) -> Fault;
+
+const BREACHES: [Breach; 22] = [
+    own_id,
+    repeated_id,
+    another_device,
+    text,
+    label_bytes,
+    label_bytes,
+    element_type,
+    element_number,
+    properties,
+    triggers,
+    scale,
+    decimals,
+    missing_parent,
+    missing_entry,
+    missing_presentation,
+    wrong_parent,
+    wrong_entry,
+    wrong_presentation,
+    repeated_number,
+    ring,
+    whole_pool,
+    repeated_ddi,
+];
+/// How many ways there are to breach a rule.
+pub const WAYS: usize = BREACHES.len();
+
+/// Scales on both sides of the range, zeros, infinities and what is none.
+pub const UNFIT_SCALES: [u32; 16] = [
+    0,
+    1,
+    LEAST_SCALE - 1,
+    GREATEST_SCALE + 1,
+    0x7F7F_FFFF,
+    0x7F80_0000,
+    0x7F80_0001,
+    0x7FC0_0000,
+    0x7FFF_FFFF,
+    0x8000_0000,
+    LEAST_SCALE | 1 << 31,
+    0xBF80_0000,
+    GREATEST_SCALE | 1 << 31,
+    0xFF80_0000,
+    0xFFC0_0000,
+    0xFFFF_FFFF,
+];
+
+/// Breaches a rule in any way.
+pub fn breach(random: &mut Random, objects: &mut Vec<Object>) -> Fault {
+    let way = random.below(WAYS);
+    breach_in_way(way, random, objects)
+}
+
+/// Breaches a rule in one of the ways there are.
+pub fn breach_in_way(way: usize, random: &mut Random, objects: &mut Vec<Object>) -> Fault {
+    BREACHES[way](random, objects)
+}
+
+fn fault(index: usize, rule: u8, item: usize) -> Fault {
+    Fault {
+        record: index as u16 + 1,
+        rule,
+        item: item as u16,
+    }
+}
+
+/// Sees to it that there are so many records of these kinds.
+fn provide(random: &mut Random, objects: &mut Vec<Object>, kinds: &[Kind], count: usize) {
+    let is_wanted = |object: &&Object| kinds.contains(&object.kind);
+    for _ in objects.iter().filter(is_wanted).count()..count {
+        let kind = random.pick(kinds);
+        let object = fresh(random, objects, kind);
+        objects.insert(random.below(objects.len() + 1), object);
+    }
+}
+
+/// The index of any record of these kinds; there is one.
+fn any_of(random: &mut Random, objects: &[Object], kinds: &[Kind]) -> usize {
+    let is_wanted = |index: &usize| kinds.contains(&objects[*index].kind);
+    let wanted: Vec<usize> = (0..objects.len()).filter(is_wanted).collect();
+    random.pick(&wanted)
+}
+
+/// The index of any record of this kind.
+fn some(random: &mut Random, objects: &mut Vec<Object>, kind: Kind) -> usize {
+    provide(random, objects, &[kind], 1);
+    any_of(random, objects, &[kind])
+}
+
+/// Two different records of this kind, the earlier one first.
+fn two(random: &mut Random, objects: &mut Vec<Object>, kind: Kind) -> (usize, usize) {
+    provide(random, objects, &[kind], 2);
+    let first = any_of(random, objects, &[kind]);
+    loop {
+        let other = any_of(random, objects, &[kind]);
+        if other != first {
+            return (first.min(other), first.max(other));
+        }
+    }
+}
+
+/// The ID that names this very record, a new one if need be.
+fn name_of(random: &mut Random, objects: &mut [Object], index: usize) -> u16 {
+    if named(objects, objects[index].id) != Some(index) {
+        objects[index].id = unused_id(random, objects);
+    }
+    objects[index].id
+}
+
+/// The ID of a record of one of these kinds.
+fn name_of_any(random: &mut Random, objects: &mut [Object], kinds: &[Kind]) -> u16 {
+    let index = any_of(random, objects, kinds);
+    name_of(random, objects, index)
+}
+
+/// An ID that names nothing: 65535, which a record may carry all the same, or
+/// one that no record carries.
+fn name_of_none(random: &mut Random, objects: &mut [Object]) -> u16 {
+    match random.below(4) {
+        0 => NO_REFERENCE,
+        1 => {
+            let index = random.below(objects.len());
+            objects[index].id = NO_REFERENCE;
+            NO_REFERENCE
+        }
+        _ => unused_id(random, objects),
+    }
+}
+
+fn own_id(random: &mut Random, objects: &mut Vec<Object>) -> Fault {
+    let kind = random.pick(&KINDS);
+    let index = some(random, objects, kind);
+    let carried = objects[random.below(objects.len())].id.max(1);
+    objects[index].id = match kind {
+        Kind::Dvc => random.pick(&[1, 256, carried, 65_534, 65_535]),
+        _ => random.pick(&[0, 65_535]),
+    };
+    fault(index, 1, 1)
+}
+
+fn repeated_id(random: &mut Random, objects: &mut Vec<Object>) -> Fault {
+    provide(random, objects, &KINDS, 2);
+    let later = random.between(1, objects.len() - 1);
+    let earlier = random.below(later);
+    if random.one_in(6) {
+        objects[earlier].id = NO_REFERENCE;
+    }
+    objects[later].id = objects[earlier].id;
+    fault(later, 2, 1)
+}
+
+fn another_device(random: &mut Random, objects: &mut Vec<Object>) -> Fault {
+    let mut device = fresh(random, objects, Kind::Dvc);
+    if random.one_in(2) {
+        device.id = unused_id(random, objects);
+    }
+    objects.insert(random.below(objects.len() + 1), device);
+    let (_, later) = two(random, objects, Kind::Dvc);
+    fault(later, 3, 1)
+}
+
+fn text(random: &mut Random, objects: &mut Vec<Object>) -> Fault {
+    let kind = random.pick(&[
+        Kind::Dvc,
+        Kind::Dvc,
+        Kind::Det,
+        Kind::Dpd,
+        Kind::Dpt,
+        Kind::Dvp,
+    ]);
+    let index = some(random, objects, kind);
+    let place = random.below(objects[index].text_count());
+    objects[index].texts[place] = unsound_text(random);
+    fault(index, 4, place + 1)
+}
+
+/// One byte of a label, half the time more of them.
+fn label_bytes(random: &mut Random, objects: &mut Vec<Object>) -> Fault {
+    let index = some(random, objects, Kind::Dvc);
+    let item = random.between(1, 14);
+    let many = random.one_in(2);
+    for other in 1..=14 {
+        if other == item || many && random.one_in(2) {
+            spoil_label(random, &mut objects[index], other);
+        }
+    }
+    fault(index, 5, item)
+}
+
+fn spoil_label(random: &mut Random, device: &mut Object, item: usize) {
+    match item {
+        1..=7 => device.structure[item - 1] = 255,
+        8..=13 => device.localization[item - 8] = 255,
+        _ => device.localization[6] = random.pick(&[0, 1, 127, 254]),
+    }
+}
+
+fn element_type(random: &mut Random, objects: &mut Vec<Object>) -> Fault {
+    let index = some(random, objects, Kind::Det);
+    objects[index].element_type = random.pick(&[0, 8, 9, 127, 128, 129, 255]);
+    fault(index, 5, 1)
+}
+
+fn element_number(random: &mut Random, objects: &mut Vec<Object>) -> Fault {
+    let index = some(random, objects, Kind::Det);
+    let any = random.between(4_096, 65_535) as u16;
+    objects[index].number = random.pick(&[GREATEST_NUMBER + 1, 4_097, 8_191, any, 65_535]);
+    fault(index, 5, 2)
+}
+
+fn properties(random: &mut Random, objects: &mut Vec<Object>) -> Fault {
+    let index = some(random, objects, Kind::Dpd);
+    if random.one_in(2) {
+        objects[index].properties |= 1 << random.between(3, 7);
+        return fault(index, 5, 1);
+    }
+    objects[index].properties |= 0b110;
+    fault(index, 5, 2)
+}
+
+fn triggers(random: &mut Random, objects: &mut Vec<Object>) -> Fault {
+    let index = some(random, objects, Kind::Dpd);
+    objects[index].triggers |= 1 << random.between(5, 7);
+    fault(index, 5, 3)
+}
+
+fn scale(random: &mut Random, objects: &mut Vec<Object>) -> Fault {
+    let index = some(random, objects, Kind::Dvp);
+    objects[index].scale_bits = random.pick(&UNFIT_SCALES);
+    fault(index, 5, 1)
+}
+
+fn decimals(random: &mut Random, objects: &mut Vec<Object>) -> Fault {
+    let index = some(random, objects, Kind::Dvp);
+    objects[index].decimals = random.pick(&[8, 9, 15, 128, 255]);
+    fault(index, 5, 2)
+}
+
+fn missing_parent(random: &mut Random, objects: &mut Vec<Object>) -> Fault {
+    let index = some(random, objects, Kind::Det);
+    objects[index].parent = name_of_none(random, objects);
+    fault(index, 6, 1)
+}
+
+fn missing_entry(random: &mut Random, objects: &mut Vec<Object>) -> Fault {
+    let index = some(random, objects, Kind::Det);
+    let id = name_of_none(random, objects);
+    let place = put_entry(random, &mut objects[index].entries, id);
+    fault(index, 6, place + 2)
+}
+
+fn missing_presentation(random: &mut Random, objects: &mut Vec<Object>) -> Fault {
+    let kind = random.pick(&[Kind::Dpd, Kind::Dpt]);
+    let index = some(random, objects, kind);
+    objects[index].presentation = unused_id(random, objects);
+    fault(index, 6, 1)
+}
+
+fn wrong_parent(random: &mut Random, objects: &mut Vec<Object>) -> Fault {
+    let kind = random.pick(&[Kind::Dpd, Kind::Dpt, Kind::Dvp]);
+    provide(random, objects, &[kind], 1);
+    let index = some(random, objects, Kind::Det);
+    objects[index].parent = name_of_any(random, objects, &[kind]);
+    fault(index, 7, 1)
+}
+
+fn wrong_entry(random: &mut Random, objects: &mut Vec<Object>) -> Fault {
+    let kind = random.pick(&[Kind::Dvc, Kind::Det, Kind::Dvp]);
+    provide(random, objects, &[kind], 1);
+    let index = some(random, objects, Kind::Det);
+    let id = name_of_any(random, objects, &[kind]);
+    let place = put_entry(random, &mut objects[index].entries, id);
+    fault(index, 7, place + 2)
+}
+
+fn wrong_presentation(random: &mut Random, objects: &mut Vec<Object>) -> Fault {
+    let target = random.pick(&[Kind::Dvc, Kind::Det, Kind::Dpd, Kind::Dpt]);
+    let kind = random.pick(&[Kind::Dpd, Kind::Dpt]);
+    provide(random, objects, &[target], 1);
+    let index = some(random, objects, kind);
+    objects[index].presentation = name_of_any(random, objects, &[target]);
+    fault(index, 7, 1)
+}
+
+/// Puts an ID into a list, in place of another one or between two, and gives
+/// its place.
+fn put_entry(random: &mut Random, entries: &mut Vec<u16>, id: u16) -> usize {
+    let any = random.below(entries.len() + 1);
+    let place = random.pick(&[0, any, entries.len()]);
+    if place < entries.len() && random.one_in(2) {
+        entries[place] = id;
+    } else {
+        entries.insert(place, id);
+    }
+    place
+}
+
+fn repeated_number(random: &mut Random, objects: &mut Vec<Object>) -> Fault {
+    let (earlier, later) = two(random, objects, Kind::Det);
+    if random.one_in(4) {
+        objects[earlier].number = random.pick(&[4_096, 8_192, 65_535]);
+    }
+    objects[later].number = objects[earlier].number;
+    fault(later, 8, 1)
+}
+
+/// Makes a device element the parent of one above it, or of itself. All that
+/// hung below these two now leads into a ring.
+fn ring(random: &mut Random, objects: &mut Vec<Object>) -> Fault {
+    let below = some(random, objects, Kind::Det);
+    let mut above = below;
+    for _ in 0..random.pick(&[0, 1, 1, 2, 5, 1_000]) {
+        match named(objects, objects[above].parent) {
+            Some(parent) if objects[parent].kind == Kind::Det => above = parent,
+            _ => break,
+        }
+    }
+    let id = name_of(random, objects, below);
+    objects[above].parent = id;
+    fault(above, 9, 1)
+}
+
+/// Takes from the pool what each pool must have.
+fn whole_pool(random: &mut Random, objects: &mut Vec<Object>) -> Fault {
+    // Some record has to remain.
+    provide(random, objects, &[Kind::Dvp], 1);
+    let rule = random.pick(&[10, 11]);
+    match rule {
+        10 => objects.retain(|object| object.kind != Kind::Dvc),
+        _ if random.one_in(4) => objects.retain(|object| object.kind != Kind::Det),
+        _ => {
+            let other = random.pick(&[0, 2, 3, 4, 5, 6, 7, 8]);
+            let device_elements = objects.iter_mut().filter(|it| it.element_type == 1);
+            device_elements.for_each(|it| it.element_type = other);
+        }
+    }
+    Fault {
+        record: 0,
+        rule,
+        item: 1,
+    }
+}
+
+/// Puts two entries with one DDI into a list, and often others between them
+/// that name nothing or a wrong kind.
+fn repeated_ddi(random: &mut Random, objects: &mut Vec<Object>) -> Fault {
+    const DATA: [Kind; 2] = [Kind::Dpd, Kind::Dpt];
+    provide(random, objects, &DATA, 2);
+    let index = some(random, objects, Kind::Det);
+    let earlier = any_of(random, objects, &DATA);
+    let later = if random.one_in(3) {
+        earlier
+    } else {
+        any_of(random, objects, &DATA)
+    };
+    objects[later].ddi = objects[earlier].ddi;
+    let mut ids = vec![name_of(random, objects, earlier)];
+    for _ in 0..random.pick(&[0, 0, 1, 3]) {
+        ids.push(name_of_no_data(random, objects));
+    }
+    ids.push(name_of(random, objects, later));
+    let entries = &mut objects[index].entries;
+    let place = random.below(entries.len() + 1);
+    let last = place + ids.len() - 1;
+    entries.splice(place..place, ids);
+    fault(index, 12, last + 2)
+}
+
+/// An ID that names nothing, or a record that no list may name. There is a
+/// device element.
+fn name_of_no_data(random: &mut Random, objects: &mut [Object]) -> u16 {
+    match random.below(3) {
+        0 => NO_REFERENCE,
+        1 => unused_id(random, objects),
+        _ => name_of_any(random, objects, &[Kind::Dvc, Kind::Det, Kind::Dvp]),
+    }
+}

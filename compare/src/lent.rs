@@ -1,0 +1,111 @@
+//! Memory that is lent to a call, between guards that are lent to nobody.
+
+/// Places of a guard.
+const GUARD: usize = 16;
+
+/// A list of words.
+#[derive(Default)]
+pub struct Lent {
+    memory: Vec<u16>,
+}
+
+impl Lent {
+    /// A list of so many words that starts with these entries. Words that
+    /// make no whole entry look like the guard behind them.
+    pub fn new<const ENTRY: usize>(
+        entries: impl Iterator<Item = [u16; ENTRY]>,
+        words: usize,
+    ) -> Self {
+        let length = GUARD + words + GUARD;
+        let mut memory = Vec::with_capacity(length);
+        memory.extend((0..GUARD).map(noise));
+        memory.extend(entries.flatten());
+        memory.extend((memory.len()..length).map(noise));
+        Lent { memory }
+    }
+
+    /// The list without its guards.
+    pub fn words(&mut self) -> &mut [u16] {
+        let end = self.memory.len() - GUARD;
+        &mut self.memory[GUARD..end]
+    }
+
+    /// Says where two lists of one length part, guards included.
+    pub fn parting(&self, name: &str, other: &Lent) -> Option<String> {
+        if self.memory == other.memory {
+            return None;
+        }
+        let mut pairs = self.memory.iter().zip(&other.memory);
+        let at = pairs.position(|(ours, theirs)| ours != theirs)?;
+        let word = at as isize - GUARD as isize;
+        let (ours, theirs) = (self.memory[at], other.memory[at]);
+        Some(format!("word {word} of {name} is {ours} against {theirs}"))
+    }
+}
+
+/// A pool, which no call may change.
+pub struct LentPool {
+    memory: Vec<u8>,
+    before: Vec<u8>,
+}
+
+impl LentPool {
+    pub fn new(pool: &[u8]) -> Self {
+        let guard: Vec<u8> = (0..GUARD).map(|index| noise(index) as u8).collect();
+        let memory = [&guard, pool, &guard].concat();
+        LentPool {
+            before: memory.clone(),
+            memory,
+        }
+    }
+
+    /// The pool without its guards.
+    pub fn bytes(&self) -> &[u8] {
+        &self.memory[GUARD..self.memory.len() - GUARD]
+    }
+
+    pub fn is_changed(&self) -> bool {
+        self.memory != self.before
+    }
+}
+
+/// A number that no call writes by chance. Neighbours differ.
+pub fn noise(index: usize) -> u16 {
+    ((index as u32).wrapping_add(1).wrapping_mul(0x9E37_79B1) >> 13) as u16
+}
+
+#[cfg(test)]
+mod tests {
+    use super::*;
+
+    fn list() -> Lent {
+        Lent::new([[1, 2, 3], [4, 5, 6]].into_iter(), 7)
+    }
+
+    #[test]
+    fn a_list_lies_between_its_guards() {
+        assert_eq!(list().words()[..6], [1, 2, 3, 4, 5, 6]);
+        assert_eq!(list().words().len(), 7);
+        assert_eq!(list().parting("list", &list()), None);
+    }
+
+    #[test]
+    fn a_change_is_seen_wherever_it_is() {
+        for at in 0..list().memory.len() {
+            let mut changed = list();
+            changed.memory[at] ^= 1;
+            let place = at as isize - GUARD as isize;
+            let seen = changed.parting("list", &list()).unwrap();
+            assert!(seen.starts_with(&format!("word {place} of list is ")));
+        }
+    }
+
+    #[test]
+    fn a_changed_pool_is_seen() {
+        let mut pool = LentPool::new(b"DVC");
+        assert_eq!(pool.bytes(), b"DVC");
+        assert!(!pool.is_changed());
+        pool.memory[GUARD + 3] ^= 1;
+        assert!(pool.is_changed());
+    }
+}

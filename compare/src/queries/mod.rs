@@ -1,0 +1,114 @@
+//! Queries, which ask for texts and labels of accepted pools. They are compared
+//! with the feature `queries` only: not every library answers them.
+
+mod library;
+
+use crate::bench::keep;
+use crate::calls::{by_library, by_second, compare, Compared};
+use crate::lent::LentPool;
+use crate::library::ENTRY_WORDS;
+use crate::verdict::{Effort, Verdict};
+use second::Record;
+use std::collections::BTreeSet;
+
+/// All IDs are asked for if there are at most so many, otherwise mostly a
+/// sample.
+const FEW_IDS: usize = 30;
+const SAMPLED_IDS: usize = 6;
+
+#[derive(Clone, Copy, Debug)]
+pub enum Query {
+    /// The text of an ID.
+    Text(u16),
+    Labels,
+}
+
+impl Query {
+    /// Asks both sides, with a table of so many words.
+    pub fn compare(self, pool: &LentPool, table: usize) -> Compared {
+        match self {
+            Query::Text(id) => text(pool, table, id),
+            Query::Labels => labels(pool, table),
+        }
+    }
+
+    /// Asks the library only, to be timed.
+    pub fn by_library(self, pool: &[u8], table: &mut [u16]) {
+        match self {
+            Query::Text(id) => keep(library::text(pool, table, id)),
+            Query::Labels => keep(library::labels(pool, table)),
+        }
+    }
+
+    /// Asks the second implementation only, to be timed.
+    pub fn by_second(self, pool: &[u8], table: &mut [Record]) {
+        match self {
+            Query::Text(id) => keep(second::text(pool, table, id)),
+            Query::Labels => keep(second::labels(pool, table)),
+        }
+    }
+}
+
+/// What a pool is asked, each with the words of its table.
+pub fn queries(verdict: &Verdict, effort: Effort) -> Vec<(Query, usize)> {
+    let tables = tables(verdict, effort);
+    let ids = ids(verdict, effort);
+    let texts = ids.into_iter().map(|id| (Query::Text(id), tables[0]));
+    // Where the pool is not read, the ID matters no more.
+    let other_tables = tables[1..].iter().map(|&table| (Query::Text(0), table));
+    let labels = tables.iter().map(|&table| (Query::Labels, table));
+    texts.chain(other_tables).chain(labels).collect()
+}
+
+/// Asks for the text of an ID, with a table of so many words.
+fn text(pool: &LentPool, table: usize, id: u16) -> Compared {
+    let second = by_second(table, |table| {
+        library::text_answer_of(pool.bytes(), second::text(pool.bytes(), table, id))
+    });
+    let library = by_library(table, |table| library::text(pool.bytes(), table, id));
+    compare(pool, library, second, |answer| answer.number)
+}
+
+/// Asks for the labels, with a table of so many words.
+fn labels(pool: &LentPool, table: usize) -> Compared {
+    let second = by_second(table, |table| {
+        library::labels_of(second::labels(pool.bytes(), table))
+    });
+    let library = by_library(table, |table| library::labels(pool.bytes(), table));
+    compare(pool, library, second, |answer| answer.number)
+}
+
+/// Tables for texts and labels: just enough, too short by a word, longer.
+fn tables(verdict: &Verdict, effort: Effort) -> Vec<usize> {
+    if verdict.is_refused() {
+        return vec![ENTRY_WORDS * verdict.most_entries];
+    }
+    let needed = verdict.needed();
+    match effort {
+        Effort::Little => vec![needed],
+        _ => vec![needed, needed - 1, needed + ENTRY_WORDS + 1],
+    }
+}
+
+/// The IDs to ask for: those of an accepted pool, all or some, with 0,
+/// 65535 and some that no record carries. Of another pool a few.
+fn ids(verdict: &Verdict, effort: Effort) -> BTreeSet<u16> {
+    let carried: BTreeSet<u16> = verdict.records.iter().map(|record| record.id).collect();
+    let not_carried = |id: &u16| !carried.contains(id);
+    let mut ids = BTreeSet::from([65_535]);
+    if effort >= Effort::Usual {
+        ids.extend((1..=65_534).find(not_carried));
+        ids.extend(carried.first());
+    }
+    if effort >= Effort::Usual && verdict.is_accepted() {
+        let sample = match effort {
+            Effort::Exhaustive => carried.len(),
+            Effort::Full if carried.len() <= FEW_IDS => carried.len(),
+            _ => SAMPLED_IDS,
+        };
+        ids.extend(carried.iter().step_by(carried.len().div_ceil(sample)));
+        ids.extend(carried.last());
+        ids.extend((1..=65_534).rev().find(not_carried));
+    }
+    ids
+}
