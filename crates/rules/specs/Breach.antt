@@ -19,7 +19,7 @@ pub record Is (es : List Entry) (k : Kind) (i : ℕ) : Type 0 where
   pub there : i < length es
   pub kind : recordAt es i .kind ≡ kindNumber k
 
--- an ID names the first record that carries it; 65535 names nothing
+-- of the records with an ID, the earliest is the one named by it; the ID 65535 stands for none
 pub record Names (es : List Entry) (x i : ℕ) : Type 0 where
   pub real : x ≡ 65535 → ⊥
   pub there : i < length es
@@ -46,7 +46,7 @@ Bit (suc b) x = Bit b (x / 2)
 
 -- rule 5: a field out of its range, by item
 pub data OutOfRange (p : List ℕ) (es : List Entry) (i : ℕ) : ℕ → Type 0 where
-  -- device: structure label bytes 1 to 7 and localization label bytes 1 to 6 of 255, and its byte 7 of another value
+  -- device: 255 in the structure label or in the first six bytes of the localization label, or anything else in the seventh
   structure : {j : ℕ} → Is es Dvc i → j < 7 → getD p (deviceOf p (startAt es i) .structure .from + j) 0 ≡ 255 → OutOfRange p es i (1 + j)
   localization : {j : ℕ} → Is es Dvc i → j < 6 → getD p (deviceOf p (startAt es i) .localization .from + j) 0 ≡ 255 → OutOfRange p es i (8 + j)
   closing : Is es Dvc i → (getD p (deviceOf p (startAt es i) .localization .from + 6) 0 ≡ 255 → ⊥) → OutOfRange p es i 14
@@ -105,22 +105,22 @@ pub data Breach (p : List ℕ) (es : List Entry) : ℕ → ℕ → ℕ → Type 
   -- 1: a device's ID is not 0; another record's is 0 or 65535
   device-id : {i : ℕ} → Is es Dvc i → (idAt es i ≡ 0 → ⊥) → Breach p es (suc i) 1 1
   other-id : {i : ℕ} → i < length es → (Is es Dvc i → ⊥) → (idAt es i ≡ 0) ⊎ (idAt es i ≡ 65535) → Breach p es (suc i) 1 1
-  -- 2: an earlier record has the same ID
+  -- 2: the ID has been used before
   same-id : {i j : ℕ} → i < length es → j < i → idAt es j ≡ idAt es i → Breach p es (suc i) 2 1
   -- 3: a device after an earlier device
   second-device : {i j : ℕ} → Is es Dvc i → j < i → Is es Dvc j → Breach p es (suc i) 3 1
   -- 4: a text is not sound
   unsound-text : {i item : ℕ} {s : Span} → Text p es i item s → (Sound (bytesOf p s) → ⊥) → Breach p es (suc i) 4 item
-  -- 5: a field is out of range
+  -- 5: outside the range
   out-of-range : {i item : ℕ} → OutOfRange p es i item → Breach p es (suc i) 5 item
-  -- 6: a reference names no record
+  -- 6: nothing is named
   names-none : {i item x : ℕ} {r : Role} → Refers p es i item r x → ((j : ℕ) → Names es x j → ⊥) → Breach p es (suc i) 6 item
-  -- 7: a reference names a record of a wrong kind
+  -- 7: what is named does not fit there
   wrong-kind : {i item x j : ℕ} {r : Role} → Refers p es i item r x → Names es x j → (Fits r es j → ⊥) → Breach p es (suc i) 7 item
   -- 8: an earlier device element has the same element number
   same-number : {i j : ℕ} → Is es Det i → j < i → Is es Det j → elementOf p (startAt es j) .number ≡ elementOf p (startAt es i) .number
       → Breach p es (suc i) 8 1
-  -- 9: a device element's chain of parents never ends
+  -- 9: going up from parent to parent comes to no end
   endless : {i : ℕ} → Is es Det i → Endless p es i → Breach p es (suc i) 9 1
   -- 10: no device
   no-device : ((i : ℕ) → Is es Dvc i → ⊥) → Breach p es 0 10 1
