@@ -6,24 +6,21 @@ use mathlib.Core.List.{List}
 use Prim.Native.Nat.{ℕ, zero, suc, _+_, _<_, _≤_}
 use native.Mathlib.Nat.{eq-or-lt-of-le}
 use native.Mathlib.Decide.{decLt}
-use native.Mathlib.Numerals.{add-one}
 use native.Mathlib.Omega.{arith}
-use borrow.Author.Tests.{eqb-true, eqb-false, eq-eqb, ne-eqb}
+use borrow.Author.Tests.{eqb-true, eqb-false, ne-eqb}
 use lib.Dec.{eqb}
 use lib.ListN.{length, getD, set}
 use lib.Seq.{getD-set-same, getD-set-other}
 use Rattle.naming.specs.Naming.{among}
 use Rattle.rules.specs.Table.{doubled}
+use Rattle.rules.proofs.Truth.{either}
+use Rattle.rules.proofs.Doubles.{some-among}
 use Rattle.breaches.specs.Lists.{Holds, Seen}
 
 -- ---- a part of a list
 
 pub holds-none : {l : List ℕ} {a x : ℕ} → Holds l a a x → ⊥
 holds-none h = omega (arith, h .after, h .before)
-
-either : (a b : Bool) → a || b ≡ true → (a ≡ true) ⊎ (b ≡ true)
-either true b h = inl refl
-either false b h = inr h
 
 neither : (a b : Bool) → a || b ≡ false → (a ≡ false) × (b ≡ false)
 neither true b h = absurd (true≢false h)
@@ -74,20 +71,7 @@ holds-nowhere {l} {k} {end} {x} before after h = go (decLt (h .at) k)
 
 -- ---- the tags
 
-pub among-some : (tag : ℕ → ℕ) (x j n : ℕ) → j < n → tag j ≡ x → among tag x n ≡ true
-unfolding among
-among-some tag x j zero h e = absurd (omega arith)
-among-some tag x j (suc n) h e =
-    ⊎-elim
-    (λ (s : j ≡ n). rw (eq-eqb (tag n) x (ap tag (sym s) ∙ e)) (or-true (among tag x n)))
-    (λ (s : j < n). rw (among-some tag x j n s e))
-    (eq-or-lt-of-le (omega arith))
-  where
-    or-true : (b : Bool) → b || true ≡ true
-    or-true true = refl
-    or-true false = refl
-
-pub among-none : (tag : ℕ → ℕ) (x n : ℕ) → ((j : ℕ) → j < n → tag j ≡ x → ⊥) → among tag x n ≡ false
+among-none : (tag : ℕ → ℕ) (x n : ℕ) → ((j : ℕ) → j < n → tag j ≡ x → ⊥) → among tag x n ≡ false
 unfolding among
 among-none tag x zero h = refl
 among-none tag x (suc n) h =
@@ -106,7 +90,7 @@ pub met : (tag : ℕ → ℕ) (m : ℕ) (seen : List ℕ) (kept k end x : ℕ) �
 unfolding doubled
 met tag m seen kept k end x s e b h =
     let d : (j : ℕ) × (j < m) × (tag j ≡ suc x) = s .some x (record { at = h .at; after = omega arith; before = omega (arith, h .before); is = h .is }) in
-    rw (e, tagged x, among-some tag (suc x) (d .0) m (d .1) (d .2))
+    rw (e, tagged x, some-among tag (suc x) m (d .0) (d .1) (d .2))
 
 -- and one that has not doubles none
 pub unmet : (tag : ℕ → ℕ) (m : ℕ) (seen : List ℕ) (kept x : ℕ) → Seen tag m seen kept → tag m ≡ suc x → (Holds seen 0 kept x → ⊥) → doubled tag m ≡ false

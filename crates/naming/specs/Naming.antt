@@ -1,9 +1,9 @@
 -- The first record with a key, what an ID names, and chains of parents, as functions. Definitions only.
 use Prim.Native.Nat.{ℕ, zero, suc, _+_}
-use mathlib.Core.Bool.{Bool, true, false, cond, not, _&&_, _||_}
+use mathlib.Core.Bool.{Bool, false, cond, _&&_, _||_}
 use mathlib.Core.List.{List}
 use lib.Dec.{eqb}
-use lib.ListN.{length, getD}
+use lib.ListN.{length}
 use Rattle.wire.specs.Bytes.{numberAt}
 use Rattle.records.specs.Fields.{elementOf}
 use Rattle.pool.specs.Reading.{Entry}
