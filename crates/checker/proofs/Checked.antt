@@ -29,7 +29,7 @@ use Rattle.naming.specs.Lists.{shown}
 use Rattle.naming.proofs.Shown.{shown-flat}
 use Rattle.rules.specs.Table.{breachesIn, breachesOf}
 use Rattle.breaches.specs.Lists.{Roomy}
-use Rattle.checker.specs.Checking.{checkOf, faultsAfter}
+use Rattle.checker.specs.Checking.{checkOf, countOf, faultsAfter}
 
 -- ---- a list of entries is no longer than its pool
 
@@ -108,16 +108,16 @@ module _ (p table filled : List ℕ) (n : ℕ) (e : answer 0 n ≡ readOf p (roo
       (rw f (h .0), h .1, rw (f, table-shows p table n e) (roomy p (roomOf table) n e))
 
   pub counted : (faults after : List ℕ) (k : ℕ) → Emits faults 0 (breachesIn p (shown filled n)) after k
-      → (answer 0 k ≡ checkOf p (roomOf table)) × (filled ≡ tableAfter p table) × (after ≡ faultsAfter p (roomOf table) faults)
-  unfolding checkOf faultsAfter breachesOf
+      → (answer 0 k ≡ checkOf p (roomOf table)) × (n ≡ countOf p (roomOf table)) × (filled ≡ tableAfter p table) × (after ≡ faultsAfter p (roomOf table) faults)
+  unfolding checkOf countOf faultsAfter breachesOf
   counted faults after k h =
       let w = emits-written (rw (f, table-shows p table n e) at h) in
-      (rw (← e) (ap (answer 0) (w .1)), f, rw (← e) (w .0))
+      (rw (← e) (ap (answer 0) (w .1)), rw (← e), f, rw (← e) (w .0))
 
 -- a refusal of reading is one of checking
 pub passed-on : (p table filled faults : List ℕ) (number value : ℕ) → answer (suc number) value ≡ readOf p (roomOf table) → filled ≡ tableAfter p table
-    → (answer (suc number) value ≡ checkOf p (roomOf table)) × (filled ≡ tableAfter p table) × (faults ≡ faultsAfter p (roomOf table) faults)
-unfolding checkOf faultsAfter
+    → (answer (suc number) value ≡ checkOf p (roomOf table)) × (0 ≡ countOf p (roomOf table)) × (filled ≡ tableAfter p table) × (faults ≡ faultsAfter p (roomOf table) faults)
+unfolding checkOf countOf faultsAfter
 passed-on p table filled faults number value e f =
     let d : eqb (suc number) 0 ≡ false = ne-eqb (suc number) 0 (λ (z : suc number ≡ 0). omega arith) in
-    (rw (← e, d), f, rw (← e, d))
+    (rw (← e, d), rw (← e, d), f, rw (← e, d))

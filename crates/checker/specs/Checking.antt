@@ -1,6 +1,6 @@
 -- Checking a pool: document 01, the paragraph on checking behind the rule table. Definitions only.
 use Prim.Native.Nat.{ℕ}
-use mathlib.Core.Bool.{Bool, true, false}
+use mathlib.Core.Bool.{Bool, true, false, cond}
 use mathlib.Core.List.{List}
 use lib.Dec.{eqb}
 use lib.ListN.{length}
@@ -9,11 +9,11 @@ use Rattle.pool.specs.Reading.{readOf, pick}
 use Rattle.faults.specs.Faults.{written}
 use Rattle.rules.specs.Table.{breachesOf}
 use Rattle.checker.specs.declared.Verdict.{Verdict}
-use Rattle.checker.specs.declared.Verdict.the-variants.{Faults, Empty, TooLong, NoMark, Cut, LengthOver, TooMany, TableShort}
+use Rattle.checker.specs.declared.Verdict.the-variants.{Checked, Empty, TooLong, NoMark, Cut, LengthOver, TooMany, TableShort}
 
 -- number 0 and the full count of faults, or reading's refusal and its place
 abbrev pub verdictOf : Verdict → Answer
-verdictOf (Faults count) = answer 0 count
+verdictOf (Checked records faults) = answer 0 faults
 verdictOf Empty = answer 1 0
 verdictOf TooLong = answer 2 0
 verdictOf (NoMark at) = answer 3 at
@@ -22,9 +22,24 @@ verdictOf (LengthOver at) = answer 5 at
 verdictOf TooMany = answer 6 0
 verdictOf (TableShort needed) = answer 7 needed
 
+-- the count of records beside it, 0 for a refusal
+abbrev pub recordsIn : Verdict → ℕ
+recordsIn (Checked records faults) = records
+recordsIn Empty = 0
+recordsIn TooLong = 0
+recordsIn (NoMark at) = 0
+recordsIn (Cut at) = 0
+recordsIn (LengthOver at) = 0
+recordsIn TooMany = 0
+recordsIn (TableShort needed) = 0
+
 -- checking refuses as reading does, or gives the length of the breach list; room is the number of entries that the table has
 unfoldable pub checkOf : List ℕ → ℕ → Answer
 checkOf p room = pick (eqb (readOf p room .number) 0) (answer 0 (length (breachesOf p))) (readOf p room)
+
+-- how many records reading finds, 0 where it refuses
+unfoldable pub countOf : List ℕ → ℕ → ℕ
+countOf p room = cond (eqb (readOf p room .number) 0) (readOf p room .value) 0
 
 abbrev pub pickList : Bool → List ℕ → List ℕ → List ℕ
 pickList true a b = a

@@ -13,14 +13,14 @@ ghost use Rattle.naming.specs.Records.{kindAt};
 ghost use Rattle.naming.specs.Naming.{firstOf, typeKey};
 ghost use Rattle.naming.specs.Lists.{shown, Blank};
 ghost use Rattle.rules.specs.Table.{poolRows, breachesIn};
-ghost use Rattle.checker.specs.Checking.{verdictOf, checkOf, faultsAfter};
+ghost use Rattle.checker.specs.Checking.{verdictOf, recordsIn, checkOf, countOf, faultsAfter};
 ghost use Rattle.breaches.specs.Lists.{Prepared, Roomy, Lent};
 ghost use Rattle.checker.specs.Trying.{Told};
 
-// What checking answers: the full count of faults, or why the pool cannot be read and where. The refusals stand in the order
-// of their numbers, 1 to 7.
+// What checking answers: how many records the table now holds and the full count of faults, or why the pool cannot be read
+// and where. The refusals stand in the order of their numbers, 1 to 7.
 pub enum Verdict {
-    Faults(usize),
+    Checked { records: usize, faults: usize },
     Empty,
     TooLong,
     NoMark(usize),
@@ -277,11 +277,14 @@ fn count_faults(p: &[u8], table: &[u16], count: usize, faults: &mut [u16]) -> us
 
 // Checks a pool: fills the table as reading does, and puts as many faults as fit into the buffer.
 pub fn check(p: &[u8], table: &mut [u16], faults: &mut [u16]) -> Verdict
-    ensures { λ r. ⌜ (verdictOf r ≡ checkOf (now (p .entry)) (roomOf (now (table .entry)))) × (now (table .exit) ≡ tableAfter (now (p .entry)) (now (table .entry))) × (now (faults .exit) ≡ faultsAfter (now (p .entry)) (roomOf (now (table .entry))) (now (faults .entry))) ⌝ }
+    ensures { λ r. ⌜ (verdictOf r ≡ checkOf (now (p .entry)) (roomOf (now (table .entry)))) × (recordsIn r ≡ countOf (now (p .entry)) (roomOf (now (table .entry)))) × (now (table .exit) ≡ tableAfter (now (p .entry)) (now (table .entry))) × (now (faults .exit) ≡ faultsAfter (now (p .entry)) (roomOf (now (table .entry))) (now (faults .entry))) ⌝ }
 {
     let outcome = pool::read(p, table);
     match outcome {
-        Outcome::Records(count) => Verdict::Faults(count_faults(p, table, count, faults)),
+        Outcome::Records(count) => Verdict::Checked {
+            records: count,
+            faults: count_faults(p, table, count, faults),
+        },
         Outcome::Empty => Verdict::Empty,
         Outcome::TooLong => Verdict::TooLong,
         Outcome::NoMark(at) => Verdict::NoMark(at),
@@ -297,7 +300,7 @@ pub fn number_of(verdict: Verdict) -> u32
     ensures { λ r. ⌜ r ≡ verdictOf verdict .number ⌝ }
 {
     match verdict {
-        Verdict::Faults(_) => 0,
+        Verdict::Checked { records, faults } => 0,
         Verdict::Empty => 1,
         Verdict::TooLong => 2,
         Verdict::NoMark(_) => 3,
@@ -313,7 +316,7 @@ pub fn value_of(verdict: Verdict) -> usize
     ensures { λ r. ⌜ r ≡ verdictOf verdict .value ⌝ }
 {
     match verdict {
-        Verdict::Faults(count) => count,
+        Verdict::Checked { records, faults } => faults,
         Verdict::Empty => 0,
         Verdict::TooLong => 0,
         Verdict::NoMark(at) => at,
@@ -321,5 +324,21 @@ pub fn value_of(verdict: Verdict) -> usize
         Verdict::LengthOver(at) => at,
         Verdict::TooMany => 0,
         Verdict::TableShort(needed) => needed,
+    }
+}
+
+// How many records the table now holds, 0 for a refusal.
+pub fn records_of(verdict: Verdict) -> usize
+    ensures { λ r. ⌜ r ≡ recordsIn verdict ⌝ }
+{
+    match verdict {
+        Verdict::Checked { records, faults } => records,
+        Verdict::Empty => 0,
+        Verdict::TooLong => 0,
+        Verdict::NoMark(_) => 0,
+        Verdict::Cut(_) => 0,
+        Verdict::LengthOver(_) => 0,
+        Verdict::TooMany => 0,
+        Verdict::TableShort(_) => 0,
     }
 }

@@ -117,14 +117,15 @@ fn list_findings(faults: &[u16], count: usize, out: &mut [u8], from: usize) -> u
     list_faults(faults, count, out, from)
 }
 
-// Lists a pool into lent memory and to standard output. A pool that has been checked is read as well, so that the value of
-// a further reading is the count of its records.
+// Lists a pool into lent memory and to standard output.
 fn list(p: &[u8], table: &mut [u16], faults: &mut [u16], out: &mut [u8]) {
     let verdict = checker::check(p, table, faults);
-    if let Verdict::Faults(found) = verdict {
-        let count = pool::value_of(pool::read(p, table));
-        let first = text::put_records(out, 0, count as u64);
-        let next = list_records(table, count, out, first);
+    if let Verdict::Checked {
+        records,
+        faults: found,
+    } = verdict {
+        let first = text::put_records(out, 0, records as u64);
+        let next = list_records(table, records, out, first);
         let end = list_findings(faults, found, out, next);
         flush(out, end);
         return;

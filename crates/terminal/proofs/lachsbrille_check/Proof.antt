@@ -23,7 +23,7 @@ same-length-2 c = search needs
 returns : tie.Need-returns
 returns c =
     let e = c .before .before .before .before .before .before .check .ensures in
-    (record { number = c .number-of .ensures ∙ ap (λ (a : Answer). a .number) (e .0); value = c .before .value-of .ensures ∙ ap (λ (a : Answer). a .value) (e .0) }, e .1, e .2)
+    (record { number = c .number-of .ensures ∙ ap (λ (a : Answer). a .number) (e .0); value = c .before .value-of .ensures ∙ ap (λ (a : Answer). a .value) (e .0) }, e .2, e .3)
 
 pub lachsbrille-check-spec : {M : Type 1} → statement M
 lachsbrille-check-spec =
