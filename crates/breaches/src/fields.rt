@@ -13,31 +13,12 @@ ghost use lib.Dec.{eqb, leb};
 ghost use lib.ListN.{getD};
 ghost use Rattle.faults.specs.Rows.{many};
 ghost use Rattle.faults.specs.Emission.{Puts};
-ghost use Rattle.rules.specs.Breach.{bytesOf};
 ghost use Rattle.rules.specs.Table.{unsound, badId, badLabel, badScale, badSource, badOwn, wrongKind, ownRows, deviceRows, fieldRows, presentationRows, dataRows, propertyRows, valueRows};
-
-// The bytes of a span that lie in the pool.
-pub(crate) fn part<'a>(p: &'a [u8], s: Span) -> &'a [u8]
-    ensures { λ r. ⌜ now r ≡ bytesOf (now (p .entry)) s ⌝ }
-{
-    let from = s.from;
-    let to = s.to;
-    if p.len() < to {
-        if p.len() < from {
-            return &p[0..0];
-        }
-        return &p[from..];
-    }
-    if to < from {
-        return &p[0..0];
-    }
-    &p[from..to]
-}
 
 fn is_unsound(p: &[u8], s: Span) -> bool
     ensures { λ r. ⌜ r ≡ unsound (now (p .entry)) s ⌝ }
 {
-    !text::is_sound(part(p, s))
+    !text::is_sound(records::view::part(p, s))
 }
 
 // Rule 1: a device has the ID 0, and nothing else has 0 or 65535.

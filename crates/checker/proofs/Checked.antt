@@ -90,7 +90,7 @@ roomy p room n e i h k =
 
 -- ---- what the table then shows, and what is answered
 
-table-shows : (p table : List ℕ) (n : ℕ) → answer 0 n ≡ readOf p (roomOf table) → shown (tableAfter p table) n ≡ entriesIn (scanOf p)
+pub table-shows : (p table : List ℕ) (n : ℕ) → answer 0 n ≡ readOf p (roomOf table) → shown (tableAfter p table) n ≡ entriesIn (scanOf p)
 table-shows p table n e =
     let c : Counted p (roomOf table) n = read-counted p (roomOf table) n e in
     subst (λ (k : ℕ). shown (tableAfter p table) k ≡ entriesIn (scanOf p)) (c .count)

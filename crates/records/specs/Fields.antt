@@ -1,8 +1,8 @@
 -- The fields of a record by value, in annex A's terms. A field is named by its number in the layout, counted from 0 after
 -- the mark. Definitions only.
-use Prim.Native.Nat.{ℕ, _+_, _*_}
+use Prim.Native.Nat.{ℕ, _+_, _-_, _*_}
 use mathlib.Core.List.{List, [], _∷_}
-use lib.ListN.{getD, take}
+use lib.ListN.{getD, take, drop}
 use Rattle.wire.specs.Bytes.{numberAt, signedOf}
 use Rattle.records.specs.Layout.{Field, fixed, text, entries, layout}
 use Rattle.records.specs.declared.Kind.{Kind}
@@ -35,6 +35,10 @@ textAt p at = record { from = at + 1; to = at + 1 + getD p at 0 }
 
 abbrev pub bytesAt : ℕ → ℕ → Span
 bytesAt n at = record { from = at; to = at + n }
+
+-- the bytes that a span takes of a pool
+abbrev pub partOf : List ℕ → Span → List ℕ
+partOf p s = take (s .to - s .from) (drop (s .from) p)
 
 -- the object ID is the first field of every kind
 unfoldable pub idOf : List ℕ → ℕ → ℕ

@@ -10,7 +10,7 @@ use super::ValuePresentation;
 ghost use mathlib.Core.Path.{_≡_};
 ghost use Prim.Native.Nat.{_+_, _≤_, _<_};
 ghost use Rattle.records.specs.Layout.{markNumber, markOf, three};
-ghost use Rattle.records.specs.Fields.{textAt, idOf, deviceOf, elementOf, entryOf, processDataOf, propertyOf, presentationOf};
+ghost use Rattle.records.specs.Fields.{textAt, partOf, idOf, deviceOf, elementOf, entryOf, processDataOf, propertyOf, presentationOf};
 
 pub fn mark(p: &[u8], at: u16) -> Mark
     ensures { λ r. ⌜ r ≡ markOf (three (now (p .entry)) at) ⌝ }
@@ -51,6 +51,24 @@ fn text(p: &[u8], at: usize) -> Span
         from: at + 1,
         to: at + 1 + n as usize,
     }
+}
+
+// The bytes of a span that lie in the pool.
+pub fn part<'a>(p: &'a [u8], s: Span) -> &'a [u8]
+    ensures { λ r. ⌜ now r ≡ partOf (now (p .entry)) s ⌝ }
+{
+    let from = s.from;
+    let to = s.to;
+    if p.len() < to {
+        if p.len() < from {
+            return &p[0..0];
+        }
+        return &p[from..];
+    }
+    if to < from {
+        return &p[0..0];
+    }
+    &p[from..to]
 }
 
 pub fn device(p: &[u8], at: u16) -> Device

@@ -10,26 +10,26 @@ use borrow.Author.Tests.{eq-eqb, eqb-true, le-leb, leb-true, lt-ltb, ltb-true}
 use lib.Dec.{eqb, ltb, leb}
 use lib.ListN.{getD}
 use Rattle.records.specs.Layout.{layout}
-use Rattle.records.specs.Fields.{fieldAt, deviceOf}
+use Rattle.records.specs.Fields.{partOf, fieldAt, deviceOf}
 use Rattle.records.specs.declared.Span.{Span}
 use Rattle.records.specs.declared.Kind.the-variants.{Dvc}
 use Rattle.text.specs.Examined.{soundText, Sound}
 use Rattle.text.proofs.Examining.{examined}
 use Rattle.pool.specs.Reading.{Entry}
 use Rattle.naming.specs.Records.{startAt}
-use Rattle.rules.specs.Breach.{Is, bytesOf, Bit, OutOfRange, structure, localization, closing}
+use Rattle.rules.specs.Breach.{Is, Bit, OutOfRange, structure, localization, closing}
 use Rattle.rules.specs.Table.{unsound, badLabel, badSource}
 use Rattle.rules.proofs.Truth.{both, to-both, either, to-left, to-right, denied, to-denied, differ, to-differ}
 
 -- ---- rule 4
 module _ (p : List ℕ) (s : Span) where
-  pub test-unsound : unsound p s ≡ true → Sound (bytesOf p s) → ⊥
+  pub test-unsound : unsound p s ≡ true → Sound (partOf p s) → ⊥
   unfolding unsound
-  test-unsound e = denied (soundText (bytesOf p s)) (examined (bytesOf p s) .1) e
+  test-unsound e = denied (soundText (partOf p s)) (examined (partOf p s) .1) e
 
-  pub unsound-test : (Sound (bytesOf p s) → ⊥) → unsound p s ≡ true
+  pub unsound-test : (Sound (partOf p s) → ⊥) → unsound p s ≡ true
   unfolding unsound
-  unsound-test h = to-denied (soundText (bytesOf p s)) (examined (bytesOf p s) .0) h
+  unsound-test h = to-denied (soundText (partOf p s)) (examined (partOf p s) .0) h
 
 -- ---- rule 5: bits
 some-bit : (n y : ℕ) → y ≤ n → 0 < y → (b : ℕ) × Bit b y

@@ -1,12 +1,12 @@
 -- The rule table in its own words: what a breach is, over a pool's bytes and its records. Nothing here says how it is found.
 -- Records are counted from 0 here and from 1 in a fault. Definitions only.
-use Prim.Native.Nat.{ℕ, zero, suc, _+_, _-_, _/_, _%_, _<_, _≤_}
+use Prim.Native.Nat.{ℕ, zero, suc, _+_, _/_, _%_, _<_, _≤_}
 use mathlib.Core.Path.{_≡_}
 use mathlib.Core.Logic.{_⊎_}
 use mathlib.Core.List.{List}
-use lib.ListN.{length, getD, take, drop}
+use lib.ListN.{length, getD}
 use Rattle.records.specs.Layout.{kindNumber}
-use Rattle.records.specs.Fields.{deviceOf, elementOf, entryOf, processDataOf, propertyOf, presentationOf}
+use Rattle.records.specs.Fields.{partOf, deviceOf, elementOf, entryOf, processDataOf, propertyOf, presentationOf}
 use Rattle.records.specs.declared.Kind.{Kind}
 use Rattle.records.specs.declared.Kind.the-variants.{Dvc, Det, Dpd, Dpt, Dvp}
 use Rattle.records.specs.declared.Span.{Span}
@@ -25,9 +25,6 @@ pub record Names (es : List Entry) (x i : ℕ) : Type 0 where
   pub there : i < length es
   pub carries : idAt es i ≡ x
   pub first : (j : ℕ) → j < i → idAt es j ≡ x → ⊥
-
-abbrev pub bytesOf : List ℕ → Span → List ℕ
-bytesOf p s = take (s .to - s .from) (drop (s .from) p)
 
 -- the texts that rule 4 speaks of, by item
 pub data Text (p : List ℕ) (es : List Entry) (i : ℕ) : ℕ → Span → Type 0 where
@@ -110,7 +107,7 @@ pub data Breach (p : List ℕ) (es : List Entry) : ℕ → ℕ → ℕ → Type 
   -- 3: a device after an earlier device
   second-device : {i j : ℕ} → Is es Dvc i → j < i → Is es Dvc j → Breach p es (suc i) 3 1
   -- 4: a text is not sound
-  unsound-text : {i item : ℕ} {s : Span} → Text p es i item s → (Sound (bytesOf p s) → ⊥) → Breach p es (suc i) 4 item
+  unsound-text : {i item : ℕ} {s : Span} → Text p es i item s → (Sound (partOf p s) → ⊥) → Breach p es (suc i) 4 item
   -- 5: outside the range
   out-of-range : {i item : ℕ} → OutOfRange p es i item → Breach p es (suc i) 5 item
   -- 6: nothing is named

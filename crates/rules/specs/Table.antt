@@ -5,7 +5,7 @@ use mathlib.Core.Bool.{Bool, true, false, cond, not, _&&_, _||_}
 use mathlib.Core.List.{List, [], _∷_, _++_}
 use lib.Dec.{eqb, ltb, leb}
 use lib.ListN.{length, getD}
-use Rattle.records.specs.Fields.{deviceOf, elementOf, entryOf, processDataOf, propertyOf, presentationOf}
+use Rattle.records.specs.Fields.{partOf, deviceOf, elementOf, entryOf, processDataOf, propertyOf, presentationOf}
 use Rattle.records.specs.declared.Span.{Span}
 use Rattle.records.specs.declared.Device.{Device}
 use Rattle.records.specs.declared.DeviceElement.{DeviceElement}
@@ -17,7 +17,6 @@ use Rattle.faults.specs.Faults.{Fault}
 use Rattle.faults.specs.Rows.{Row, one, many, inRecords}
 use Rattle.pool.specs.Reading.{Entry, scanOf, entriesIn}
 use Rattle.naming.specs.Records.{startAt, idAt, kindAt}
-use Rattle.rules.specs.Breach.{bytesOf}
 use Rattle.naming.specs.Naming.{firstOf, typeKey, named, kindOf, parentOf, climb, isData, tagOf, among}
 
 -- not the first of the records with a key
@@ -28,7 +27,7 @@ abbrev pub badId : ℕ → Bool
 badId x = eqb x 0 || eqb x 65535
 
 unfoldable pub unsound : List ℕ → Span → Bool
-unsound p s = not (soundText (bytesOf p s))
+unsound p s = not (soundText (partOf p s))
 
 -- the fourteen label bytes of a device: all but the last must not be 255, the last must
 abbrev pub badLabel : List ℕ → ℕ → ℕ → Bool

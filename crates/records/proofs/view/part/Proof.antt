@@ -1,15 +1,13 @@
--- `breaches::fields::part` meets its contract: the bytes of a span, cut at the pool's end. Assumes nothing.
+-- `records::view::part` meets its contract: the bytes of a span, cut at the pool's end. Assumes nothing.
 use mathlib.Core.Path.{_≡_, refl, sym, _∙_}
 use mathlib.Core.List.{List, []}
 use Prim.Native.Nat.{ℕ, _-_, _<_, _≤_}
 use native.Mathlib.Omega.{arith}
 use lib.ListN.{length, take, drop, length-drop, drop-of-length-le}
 use lib.Seq.{take-all, take-nil}
-use Rattle.rules.specs.Breach.{bytesOf}
-use Rattle.records.specs.declared.Span.{Span}
 use borrow.Author.Needs.{needs}
-use Rattle.breaches.proofs.fields.part.Statement.{statement}
-use Rattle.breaches.proofs.fields.part.Tie as tie
+use Rattle.records.proofs.view.part.Statement.{statement}
+use Rattle.records.proofs.view.part.Tie as tie
 
 -- a span that starts behind the pool's end, one that ends there, and one that ends before it starts
 behind : (p : List ℕ) (from to : ℕ) → length p < from → [] ≡ take (to - from) (drop from p)
