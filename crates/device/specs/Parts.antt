@@ -1,0 +1,22 @@
+-- For the contracts of private functions: no public contract rests on these. Definitions only.
+use Prim.Native.Nat.{ℕ, _+_, _*_}
+use mathlib.Core.List.{List}
+use lib.ListN.{length, getD}
+use mathlib.Core.Path.{_≡_}
+use Rattle.records.specs.Fields.{partOf}
+use Rattle.records.specs.declared.Device.{Device}
+use Rattle.pool.specs.Reading.{width}
+use Rattle.device.specs.Queries.{padded}
+use Rattle.device.specs.declared.DeviceLabels.{DeviceLabels}
+
+-- a number of entry i of a working table, by its place in the entry
+abbrev pub columnIn : List ℕ → ℕ → ℕ → ℕ
+columnIn table column i = getD table (i * width + column) 0
+
+-- an answer with the labels of a device
+pub record LabelledBy (p : List ℕ) (d : Device) (r : DeviceLabels) : Type 0 where
+  pub number : r .number ≡ 0
+  pub structure : r .structure ≡ padded 7 (partOf p (d .structure))
+  pub localization : r .localization ≡ padded 7 (partOf p (d .localization))
+  pub extended : r .extended ≡ padded 32 (partOf p (d .extended))
+  pub count : r .«extended_length» ≡ length (partOf p (d .extended))

@@ -1,0 +1,170 @@
+// What may be asked of an accepted pool: a record's text by its ID, and the labels of the device. Every call checks the
+// pool first and fills the table as checking does.
+use checker::Verdict;
+use records::Span;
+ghost use mathlib.Core.Path.{_≡_};
+ghost use Prim.Native.Nat.{_*_, _≤_, _<_};
+ghost use lib.ListN.{length};
+ghost use Rattle.records.specs.Fields.{partOf, deviceOf};
+ghost use Rattle.pool.specs.Reading.{width, roomOf, tableAfter};
+ghost use Rattle.naming.specs.Naming.{firstOf};
+ghost use Rattle.checker.specs.Checking.{verdictOf};
+ghost use Rattle.device.specs.Queries.{refusalIn, textIn, textNumber, textOf, Finds, Labelled};
+ghost use Rattle.device.specs.Parts.{columnIn, LabelledBy};
+
+// Where a text stands in the pool, or the number of a refusal with zeros.
+pub struct Place {
+    pub number: u32,
+    pub from: usize,
+    pub to: usize,
+}
+
+// The labels of the device, or the number of a refusal with zeros.
+#[repr(C)]
+pub struct DeviceLabels {
+    pub number: u32,
+    pub structure: [u8; 7],
+    pub localization: [u8; 7],
+    pub extended: [u8; 32],
+    pub extended_length: u16,
+}
+
+// Why a pool that has been checked is not accepted, 0 where it is.
+fn refusal(verdict: Verdict) -> u32
+    ensures { λ r. ⌜ r ≡ refusalIn (verdictOf verdict) ⌝ }
+{
+    let number = checker::number_of(verdict);
+    if number != 0 {
+        return number;
+    }
+    if checker::value_of(verdict) != 0 {
+        return 24;
+    }
+    0
+}
+
+// The number, from 1, of the first record that has x in a column of the table, 0 for none.
+fn first_with(table: &[u16], count: usize, column: usize, x: u16) -> u16
+    requires { ⌜ (count * width ≤ length (now table)) × (count ≤ 8192) × (column < width) ⌝ }
+    ensures { λ r. ⌜ r ≡ firstOf (columnIn (now (table .entry)) column) x count ⌝ }
+{
+    let mut i: usize = 0;
+    while i < count {
+        if table[i * 4 + column] == x {
+            return (i + 1) as u16;
+        }
+        i += 1;
+    }
+    0
+}
+
+// A record's designator or unit text.
+fn text_in(p: &[u8], kind: u16, at: u16) -> Span
+    ensures { λ r. ⌜ r ≡ textIn (now (p .entry)) kind at ⌝ }
+{
+    if kind == 1 {
+        return records::view::device(p, at).designator;
+    }
+    if kind == 2 {
+        return records::view::device_element(p, at).designator;
+    }
+    if kind == 3 {
+        return records::view::process_data(p, at).designator;
+    }
+    if kind == 4 {
+        return records::view::property(p, at).designator;
+    }
+    if kind == 5 {
+        return records::view::value_presentation(p, at).unit;
+    }
+    Span { from: 0, to: 0 }
+}
+
+// Finds a text: its place lies within the pool, also where it is empty.
+pub fn find_text(p: &[u8], table: &mut [u16], id: u16) -> Place
+    ensures { λ r. ⌜ Finds (now (p .entry)) (roomOf (now (table .entry))) id r × (now (table .exit) ≡ tableAfter (now (p .entry)) (now (table .entry))) ⌝ }
+{
+    let mut faults = [0u16; 3];
+    let verdict = checker::check(p, table, &mut faults);
+    let number = refusal(verdict);
+    if number != 0 {
+        return Place {
+            number,
+            from: 0,
+            to: 0,
+        };
+    }
+    let record = first_with(table, checker::records_of(verdict), 3, id) as usize;
+    if record == 0 {
+        return Place {
+            number: 28,
+            from: 0,
+            to: 0,
+        };
+    }
+    let entry = (record - 1) * 4;
+    let text = text_in(p, table[entry + 2], table[entry]);
+    Place {
+        number: 0,
+        from: text.from,
+        to: text.to,
+    }
+}
+
+// The text of the first record with an ID, as a part of the caller's pool. An empty text and a refusal differ by the
+// number that goes out beside it.
+pub fn text<'a>(p: &'a [u8], table: &mut [u16], id: u16, number: &mut u32) -> &'a [u8]
+    ensures { λ r. ⌜ (now r ≡ textOf (now (p .entry)) (roomOf (now (table .entry))) id) × (now (number .exit) ≡ textNumber (now (p .entry)) (roomOf (now (table .entry))) id) × (now (table .exit) ≡ tableAfter (now (p .entry)) (now (table .entry))) ⌝ }
+{
+    let place = find_text(p, table, id);
+    *number = place.number;
+    let from = place.from;
+    let to = place.to;
+    &p[from..to]
+}
+
+// The labels of the device that starts at a place.
+fn labels_at(p: &[u8], at: u16) -> DeviceLabels
+    requires { ⌜ length (partOf (now p) (deviceOf (now p) at .extended)) ≤ 32 ⌝ }
+    ensures { λ r. ⌜ LabelledBy (now (p .entry)) (deviceOf (now (p .entry)) at) r ⌝ }
+{
+    let device = records::view::device(p, at);
+    let mut structure = [0u8; 7];
+    wire::copy(records::view::part(p, device.structure), &mut structure, 0);
+    let mut localization = [0u8; 7];
+    wire::copy(
+        records::view::part(p, device.localization),
+        &mut localization,
+        0,
+    );
+    let text = records::view::part(p, device.extended);
+    let mut extended = [0u8; 32];
+    wire::copy(text, &mut extended, 0);
+    DeviceLabels {
+        number: 0,
+        structure,
+        localization,
+        extended,
+        extended_length: text.len() as u16,
+    }
+}
+
+// The labels of the device, by value, with the count of the extended label's bytes.
+pub fn labels(p: &[u8], table: &mut [u16]) -> DeviceLabels
+    ensures { λ r. ⌜ Labelled (now (p .entry)) (roomOf (now (table .entry))) r × (now (table .exit) ≡ tableAfter (now (p .entry)) (now (table .entry))) ⌝ }
+{
+    let mut faults = [0u16; 3];
+    let verdict = checker::check(p, table, &mut faults);
+    let number = refusal(verdict);
+    if number != 0 {
+        return DeviceLabels {
+            number,
+            structure: [0u8; 7],
+            localization: [0u8; 7],
+            extended: [0u8; 32],
+            extended_length: 0,
+        };
+    }
+    let record = first_with(table, checker::records_of(verdict), 2, 1) as usize;
+    labels_at(p, table[(record - 1) * 4])
+}
