@@ -1,9 +1,11 @@
 // The C interface: numbers and lent memory. A refusal is its number; what goes with it is put into a lent number.
+use device::DeviceLabels;
 ghost use mathlib.Core.Path.{_≡_};
 ghost use Rattle.pool.specs.Reading.{readOf, roomOf, tableAfter};
 ghost use Rattle.text.specs.Examined.{soundText};
 ghost use Rattle.checker.specs.Checking.{checkOf, faultsAfter};
-ghost use Rattle.terminal.specs.Numbers.{Says};
+ghost use Rattle.device.specs.Queries.{Labelled};
+ghost use Rattle.terminal.specs.Numbers.{Says, Gives};
 
 #[no_mangle]
 pub extern "C" fn lachsbrille_read(p: &[u8], table: &mut [u16], value: &mut usize) -> u32
@@ -35,4 +37,29 @@ pub extern "C" fn lachsbrille_text_is_sound(s: &[u8]) -> bool
     ensures { λ r. ⌜ r ≡ soundText (now (s .entry)) ⌝ }
 {
     text::is_sound(s)
+}
+
+// Where the text of the first record with an ID stands in the pool: from one lent place up to the other.
+#[no_mangle]
+pub extern "C" fn lachsbrille_text(
+    p: &[u8],
+    table: &mut [u16],
+    id: u16,
+    from: &mut usize,
+    to: &mut usize,
+) -> u32
+    ensures { λ r. ⌜ Gives (now (p .entry)) (roomOf (now (table .entry))) id r (now (from .exit)) (now (to .exit)) × (now (table .exit) ≡ tableAfter (now (p .entry)) (now (table .entry))) ⌝ }
+{
+    let place = device::find_text(p, table, id);
+    *from = place.from;
+    *to = place.to;
+    place.number
+}
+
+// The labels of the device, as a struct by value.
+#[no_mangle]
+pub extern "C" fn lachsbrille_labels(p: &[u8], table: &mut [u16]) -> DeviceLabels
+    ensures { λ r. ⌜ Labelled (now (p .entry)) (roomOf (now (table .entry))) r × (now (table .exit) ≡ tableAfter (now (p .entry)) (now (table .entry))) ⌝ }
+{
+    device::labels(p, table)
 }
