@@ -15,7 +15,6 @@ mod lent;
 mod library;
 mod lister;
 mod objects;
-#[cfg(feature = "queries")]
 mod queries;
 mod random;
 mod realistic;

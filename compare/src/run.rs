@@ -7,7 +7,6 @@ use crate::generated;
 use crate::input::{Input, Known};
 use crate::lent::LentPool;
 use crate::lister::Lister;
-#[cfg(feature = "queries")]
 use crate::queries::queries;
 use crate::tally::Tallies;
 use crate::texts::{self, Report};
@@ -110,7 +109,6 @@ impl Run {
                 format!("checking, table of {table} words, faults of {faults}")
             });
         }
-        #[cfg(feature = "queries")]
         self.compare_queries(input, verdict, pool);
     }
 
@@ -128,7 +126,6 @@ impl Run {
         }
     }
 
-    #[cfg(feature = "queries")]
     fn compare_queries(&mut self, input: &Input, verdict: &Verdict, pool: &LentPool) {
         for (query, table) in queries(verdict, self.effort(input)) {
             self.take(input, query.compare(pool, table), || {

@@ -4,20 +4,7 @@ use crate::input::Class;
 use crate::verdict::Verdict;
 
 /// What calls answer: 0 or a refusal.
-const NUMBERS: &[u32] = &[
-    0,
-    1,
-    2,
-    3,
-    4,
-    5,
-    6,
-    7,
-    #[cfg(feature = "queries")]
-    24,
-    #[cfg(feature = "queries")]
-    28,
-];
+const NUMBERS: &[u32] = &[0, 1, 2, 3, 4, 5, 6, 7, 24, 28];
 /// Out of reach: the most records a pool holds are 5,461.
 const MANY_RECORDS: u32 = 6;
 

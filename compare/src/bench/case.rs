@@ -6,7 +6,6 @@ use crate::calls;
 use crate::lent::LentPool;
 use crate::library::{self, ENTRY_WORDS, FAULT_WORDS};
 use crate::objects::{pool_of, Object};
-#[cfg(feature = "queries")]
 use crate::queries::Query;
 use crate::verdict::Verdict;
 use second::{Fault, Record};
@@ -19,7 +18,6 @@ const FAULTS: usize = 1_024;
 pub enum Work {
     Read,
     Check,
-    #[cfg(feature = "queries")]
     Query(Query),
 }
 
@@ -57,7 +55,6 @@ impl Case {
         let compared = match work {
             Work::Read => calls::read(&pool, table),
             Work::Check => calls::check(&pool, table, FAULT_WORDS * (self.faults + 1)),
-            #[cfg(feature = "queries")]
             Work::Query(query) => query.compare(&pool, table),
         };
         match compared.difference {
@@ -84,7 +81,6 @@ impl Case {
         match work {
             Work::Read => keep(library::read(pool, table)),
             Work::Check => keep(library::check(pool, table, faults)),
-            #[cfg(feature = "queries")]
             Work::Query(query) => query.by_library(pool, table),
         }
     }
@@ -96,7 +92,6 @@ impl Case {
         match work {
             Work::Read => keep(second::read_pool(pool, table)),
             Work::Check => keep(second::check(pool, table, faults)),
-            #[cfg(feature = "queries")]
             Work::Query(query) => query.by_second(pool, table),
         }
     }

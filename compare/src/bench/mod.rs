@@ -2,7 +2,6 @@
 
 mod case;
 mod extremes;
-#[cfg(feature = "queries")]
 mod queries;
 mod sound;
 mod texts;
@@ -17,7 +16,6 @@ pub fn bench() -> bool {
     let outcome = sound::bench("reading", Work::Read, 101)
         .and_then(|()| sound::bench("check", Work::Check, 31))
         .and_then(|()| extremes::bench());
-    #[cfg(feature = "queries")]
     let outcome = outcome.and_then(|()| queries::bench());
     if let Err(difference) = &outcome {
         println!("bench: the sides do not agree about {difference}");

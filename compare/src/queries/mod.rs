@@ -1,5 +1,4 @@
-//! Queries, which ask for texts and labels of accepted pools. They are compared
-//! with the feature `queries` only: not every library answers them.
+//! Queries, which ask for texts and labels of accepted pools.
 
 mod library;
 
