@@ -43,7 +43,7 @@ fn refusal(verdict: Verdict) -> u32
     0
 }
 
-// The number, from 1, of the first record that has x in a column of the table, 0 for none.
+// The number, from 1, of the first record that has x in a column of the table, 0 for none. Column 2 is the kind, 3 the ID.
 fn first_with(table: &[u16], count: usize, column: usize, x: u16) -> u16
     requires { ⌜ (count * width ≤ length (now table)) × (count ≤ 8192) × (column < width) ⌝ }
     ensures { λ r. ⌜ r ≡ firstOf (columnIn (now (table .entry)) column) x count ⌝ }
@@ -80,7 +80,8 @@ fn text_in(p: &[u8], kind: u16, at: u16) -> Span
     Span { from: 0, to: 0 }
 }
 
-// Finds a text: its place lies within the pool, also where it is empty.
+// Finds a text: its place lies within the pool, also where it is empty. Of the faults only the count matters, so the buffer
+// for them has room for one.
 pub fn find_text(p: &[u8], table: &mut [u16], id: u16) -> Place
     ensures { λ r. ⌜ Finds (now (p .entry)) (roomOf (now (table .entry))) id r × (now (table .exit) ≡ tableAfter (now (p .entry)) (now (table .entry))) ⌝ }
 {
@@ -149,7 +150,8 @@ fn labels_at(p: &[u8], at: u16) -> DeviceLabels
     }
 }
 
-// The labels of the device, by value, with the count of the extended label's bytes.
+// The labels of the device, by value, with the count of the extended label's bytes. An accepted pool has a device, so no
+// test looks for its absence.
 pub fn labels(p: &[u8], table: &mut [u16]) -> DeviceLabels
     ensures { λ r. ⌜ Labelled (now (p .entry)) (roomOf (now (table .entry))) r × (now (table .exit) ≡ tableAfter (now (p .entry)) (now (table .entry))) ⌝ }
 {
