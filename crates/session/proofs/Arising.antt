@@ -1,0 +1,52 @@
+-- What holds of a value that can arise. Assumes nothing.
+use mathlib.Core.Path.{_≡_, refl, sym, ap, _∙_}
+use mathlib.Core.Bool.{Bool, true, false, not, _&&_, _||_, true≢false}
+use Prim.Native.Nat.{ℕ, _≤_, _<_}
+use native.Mathlib.Omega.{arith}
+use borrow.Author.Tests.{ltb-false, eqb-false}
+use lib.Dec.{eqb, ltb}
+use Rattle.session.specs.Calls.{isOffered, impossible}
+use Rattle.session.specs.declared.Session.{Session}
+
+pub neither : (a b : Bool) → (a || b) ≡ false → (a ≡ false) × (b ≡ false)
+neither true b e = absurd (true≢false e)
+neither false b e = (refl, e)
+
+not-both : (a b : Bool) → (a && b) ≡ false → a ≡ true → b ≡ false
+not-both true b e q = e
+not-both false b e q = absurd (true≢false (sym q))
+
+none : (a b c d f g : Bool) → (((((a || b) || c) || d) || f) || g) ≡ false → (a ≡ false) × (b ≡ false) × (c ≡ false) × (d ≡ false) × (f ≡ false) × (g ≡ false)
+none a b c d f g e =
+    let m = neither ((((a || b) || c) || d) || f) g e in
+    let n = neither (((a || b) || c) || d) f (m .0) in
+    let o = neither ((a || b) || c) d (n .0) in
+    let p = neither (a || b) c (o .0) in
+    let q = neither a b (p .0) in
+    (q .0, q .1, p .1, o .1, n .1, m .1)
+
+module _ (s : Session) (e : impossible s ≡ false) where
+  tests :
+      (ltb 65535 (s .announced) ≡ false) × (ltb 65535 (s .kept) ≡ false) × ((isOffered (s .stage) && eqb (s .announced) 0) ≡ false)
+      × (ltb (s .announced) (s .received) ≡ false) × ((s .active && eqb (s .kept) 0) ≡ false)
+      × ((not (isOffered (s .stage)) && (not (eqb (s .announced) 0) || not (eqb (s .received) 0))) ≡ false)
+  unfolding impossible
+  tests =
+      none (ltb 65535 (s .announced)) (ltb 65535 (s .kept)) (isOffered (s .stage) && eqb (s .announced) 0) (ltb (s .announced) (s .received))
+      (s .active && eqb (s .kept) 0)
+      (not (isOffered (s .stage)) && (not (eqb (s .announced) 0) || not (eqb (s .received) 0)))
+      e
+
+  -- no more is received than was announced, which is no more than a pool may have
+  pub within : s .received ≤ s .announced
+  within = ltb-false (s .announced) (s .received) (tests .3)
+
+  pub small : s .announced ≤ 65535
+  small = ltb-false 65535 (s .announced) (tests .0)
+
+  -- an offer announces something
+  pub some : isOffered (s .stage) ≡ true → 1 ≤ s .announced
+  some o = positive (s .announced) (eqb-false (s .announced) 0 (not-both (isOffered (s .stage)) (eqb (s .announced) 0) (tests .2) o))
+    where
+      positive : (n : ℕ) → (n ≡ 0 → ⊥) → 1 ≤ n
+      positive n h = omega arith

@@ -1,0 +1,4 @@
+-- What belongs to no one function.
+pub mod Arising
+pub mod Pieces
+pub mod Settled

@@ -1,0 +1,100 @@
+-- `session::activate` meets its contract: each return is a case of the definition. Assumes nothing.
+use mathlib.Core.Path.{_≡_, refl, sym, _∙_}
+use mathlib.Core.Bool.{true, false, _||_}
+use Prim.Native.Nat.{ℕ, _≤_, _<_}
+use native.Mathlib.Omega.{arith}
+use borrow.Author.Tests.{ltb-false, lt-ltb, le-ltb, not-true, not-false}
+use mathlib.Core.List.{List}
+use lib.Dec.{ltb}
+use lib.ListN.{length, take}
+use lib.Seq.{length-take-le}
+use Rattle.session.specs.Calls.{impossible, isOffered, activateOf, isChecked, keptAfter, activatedTable}
+use Rattle.session.specs.declared.Session.{Session}
+use Rattle.session.proofs.Arising.{neither, small, some}
+use borrow.Author.Needs.{needs}
+use Rattle.session.proofs.activate.Statement.{statement}
+use Rattle.session.proofs.activate.Tie as tie
+
+-- the pool that is checked: what the areas have room for, of a size that is announced
+sized : (s : Session) (staging kept : List ℕ) → impossible s ≡ false → isOffered (s .stage) ≡ true → (ltb (length staging) (s .announced) || ltb (length kept) (s .announced)) ≡ false
+    → (s .announced ≤ length staging) × (1 ≤ length (take (s .announced) staging)) × (length (take (s .announced) staging) ≤ 65535) × (length (take (s .announced) staging) ≤ length kept)
+sized s staging kept e o h =
+    let n = neither (ltb (length staging) (s .announced)) (ltb (length kept) (s .announced)) h in
+    let a : s .announced ≤ length staging = ltb-false (length staging) (s .announced) (n .0) in
+    let b : s .announced ≤ length kept = ltb-false (length kept) (s .announced) (n .1) in
+    let l : length (take (s .announced) staging) ≡ s .announced = length-take-le (s .announced) staging a in
+    let m = some s e o in
+    let k = small s e in
+    (a, omega arith, omega arith, omega arith)
+
+is-impossible-requires : tie.Need-is-impossible-requires
+is-impossible-requires c κs = search needs
+
+refuse-requires : tie.Need-refuse-requires
+refuse-requires c κs = search needs
+
+returns : tie.Need-returns
+unfolding activateOf keptAfter activatedTable isChecked
+returns c = rw (sym (c .before .before .is-impossible .ensures) ∙ c .before .if1 .taken) (c .refuse .ensures, refl, refl)
+
+is-offered-requires : tie.Need-is-offered-requires
+is-offered-requires c κs = search needs
+
+activate-kept-requires : tie.Need-activate-kept-requires
+activate-kept-requires c κs = search needs
+
+returns-2 : tie.Need-returns-2
+unfolding activateOf keptAfter activatedTable isChecked
+returns-2 c = rw (sym (c .before .before .before .before .is-impossible .ensures) ∙ c .before .before .before .if1 .left, sym (c .before .before .is-offered .ensures) ∙ not-true _ (c .before .if2 .taken)) (c .activate-kept .ensures, refl, refl)
+
+refuse-requires-2 : tie.Need-refuse-requires-2
+refuse-requires-2 c κs = search needs
+
+returns-3 : tie.Need-returns-3
+unfolding activateOf keptAfter activatedTable isChecked
+returns-3 c = rw (sym (c .before .before .before .before .before .before .is-impossible .ensures) ∙ c .before .before .before .before .before .if1 .left, sym (c .before .before .before .before .is-offered .ensures) ∙ not-false _ (c .before .before .before .if2 .left), lt-ltb _ _ (c .before .if3 .taken)) (c .refuse2 .ensures, refl, refl)
+
+refuse-requires-3 : tie.Need-refuse-requires-3
+refuse-requires-3 c κs = search needs
+
+returns-4 : tie.Need-returns-4
+unfolding activateOf keptAfter activatedTable isChecked
+returns-4 c = rw (sym (c .before .before .before .before .before .before .before .is-impossible .ensures) ∙ c .before .before .before .before .before .before .if1 .left, sym (c .before .before .before .before .before .is-offered .ensures) ∙ not-false _ (c .before .before .before .before .if2 .left), le-ltb _ _ (c .before .before .if3 .left), c .before .if4 .taken) (c .refuse3 .ensures, refl, refl)
+
+slice-aggregate-settle : tie.Need-slice-aggregate-settle
+slice-aggregate-settle c = sym (length-take-le (c .before .before .before .before .before .before .before .before .before .before .before .args .s .announced) (c .before .before .before .before .before .before .before .before .before .before .before .args .staging .now) (sized (c .before .before .before .before .before .before .before .before .before .before .before .args .s) (c .before .before .before .before .before .before .before .before .before .before .before .args .staging .now) (c .before .before .before .before .before .before .before .before .before .before .before .args .kept .now) (sym (c .before .before .before .before .before .before .before .is-impossible .ensures) ∙ c .before .before .before .before .before .before .if1 .left) (sym (c .before .before .before .before .before .is-offered .ensures) ∙ not-false _ (c .before .before .before .before .if2 .left)) (c .before .if4 .left) .0))
+
+settle-requires : tie.Need-settle-requires
+settle-requires c κs =
+    let z = sized (c .before .before .before .before .before .before .before .before .before .before .before .before .before .args .s) (c .before .before .before .before .before .before .before .before .before .before .before .before .before .args .staging .now) (c .before .before .before .before .before .before .before .before .before .before .before .before .before .args .kept .now) (sym (c .before .before .before .before .before .before .before .before .before .is-impossible .ensures) ∙ c .before .before .before .before .before .before .before .before .if1 .left) (sym (c .before .before .before .before .before .before .before .is-offered .ensures) ∙ not-false _ (c .before .before .before .before .before .before .if2 .left)) (c .before .before .before .if4 .left) in
+    (z .1, z .2, z .3)
+
+same-length : tie.Need-same-length
+same-length c = search needs
+
+same-length-2 : tie.Need-same-length-2
+same-length-2 c = search needs
+
+returns-5 : tie.Need-returns-5
+unfolding activateOf keptAfter activatedTable isChecked
+returns-5 c = rw (sym (c .before .before .before .before .before .before .before .before .before .before .before .before .before .before .is-impossible .ensures) ∙ c .before .before .before .before .before .before .before .before .before .before .before .before .before .if1 .left, sym (c .before .before .before .before .before .before .before .before .before .before .before .before .is-offered .ensures) ∙ not-false _ (c .before .before .before .before .before .before .before .before .before .before .before .if2 .left), le-ltb _ _ (c .before .before .before .before .before .before .before .before .before .if3 .left), c .before .before .before .before .before .before .before .before .if4 .left) (c .before .before .before .before .settle .ensures .0, c .before .before .before .before .settle .ensures .1, c .before .before .before .before .settle .ensures .2)
+
+pub activate-spec : {M : Type 1} → statement M
+activate-spec =
+    tie.close
+    (tie.spec
+    is-impossible-requires
+    refuse-requires
+    returns
+    is-offered-requires
+    activate-kept-requires
+    returns-2
+    refuse-requires-2
+    returns-3
+    refuse-requires-3
+    returns-4
+    slice-aggregate-settle
+    settle-requires
+    same-length
+    same-length-2
+    returns-5)

@@ -1,0 +1,33 @@
+-- What a session call answers, in the numbers of document 01. Definitions only.
+use Prim.Native.Nat.{ℕ}
+use Rattle.faults.specs.Faults.{Fault, fault}
+use Rattle.session.specs.declared.Answer.{Answer}
+use Rattle.session.specs.declared.Answer.the-variants.{Done, NoMark, Cut, LengthOver, TooMany, TableShort, BadSize, NotOffered, BadPiece, Incomplete, Faulty, NotActive, NoRoom, CannotArise}
+
+-- number 0, or a refusal's number with its place or the first fault; what an answer does not have is zeros
+pub record Reply : Type 0 where
+  pub number : ℕ
+  pub place : ℕ
+  pub first : Fault
+
+abbrev pub reply : ℕ → ℕ → Reply
+reply n place = record { number = n; place = place; first = fault 0 0 0 }
+
+abbrev pub faulty : Fault → Reply
+faulty f = record { number = 24; place = 0; first = f }
+
+abbrev pub replyOf : Answer → Reply
+replyOf Done = reply 0 0
+replyOf (NoMark at) = reply 3 at
+replyOf (Cut at) = reply 4 at
+replyOf (LengthOver at) = reply 5 at
+replyOf TooMany = reply 6 0
+replyOf (TableShort needed) = reply 7 needed
+replyOf BadSize = reply 20 0
+replyOf NotOffered = reply 21 0
+replyOf BadPiece = reply 22 0
+replyOf Incomplete = reply 23 0
+replyOf (Faulty number rule item) = faulty (fault number rule item)
+replyOf NotActive = reply 25 0
+replyOf NoRoom = reply 26 0
+replyOf CannotArise = reply 27 0
