@@ -1,10 +1,13 @@
 -- What holds of a value that can arise. Assumes nothing.
+use mathlib.Core.List.{List}
 use mathlib.Core.Path.{_≡_, refl, sym, ap, _∙_}
 use mathlib.Core.Bool.{Bool, true, false, not, _&&_, _||_, true≢false}
 use Prim.Native.Nat.{ℕ, _≤_, _<_}
 use native.Mathlib.Omega.{arith}
 use borrow.Author.Tests.{ltb-false, eqb-false}
 use lib.Dec.{eqb, ltb}
+use lib.ListN.{length, take}
+use lib.Seq.{length-take-le}
 use Rattle.session.specs.Calls.{isOffered, impossible}
 use Rattle.session.specs.declared.Session.{Session}
 
@@ -50,3 +53,15 @@ module _ (s : Session) (e : impossible s ≡ false) where
     where
       positive : (n : ℕ) → (n ≡ 0 → ⊥) → 1 ≤ n
       positive n h = omega arith
+
+-- the pool that is checked: what the areas have room for, of a size that is announced
+pub sized : (s : Session) (staging kept : List ℕ) → impossible s ≡ false → isOffered (s .stage) ≡ true → (ltb (length staging) (s .announced) || ltb (length kept) (s .announced)) ≡ false
+    → (s .announced ≤ length staging) × (1 ≤ length (take (s .announced) staging)) × (length (take (s .announced) staging) ≤ 65535) × (length (take (s .announced) staging) ≤ length kept)
+sized s staging kept e o h =
+    let n = neither (ltb (length staging) (s .announced)) (ltb (length kept) (s .announced)) h in
+    let a : s .announced ≤ length staging = ltb-false (length staging) (s .announced) (n .0) in
+    let b : s .announced ≤ length kept = ltb-false (length kept) (s .announced) (n .1) in
+    let l : length (take (s .announced) staging) ≡ s .announced = length-take-le (s .announced) staging a in
+    let m = some s e o in
+    let k = small s e in
+    (a, omega arith, omega arith, omega arith)

@@ -43,7 +43,7 @@ module _ (p : List ℕ) (room : ℕ) where
   read-high a b h = rw (read-walk p room a b) (counted-high room (scanOf p) (rw (read-walk p room a b) at h))
 
   -- checking has reading's number
-  check-number : checkOf p room .number ≡ readOf p room .number
+  pub check-number : checkOf p room .number ≡ readOf p room .number
   unfolding checkOf
   check-number = go (readOf p room) (length (breachesOf p)) (eqb (readOf p room .number) 0) refl
     where
@@ -124,3 +124,30 @@ module _ (s : Session) (p table : List ℕ) (v : Verdict) (e : verdictOf v ≡ c
         → (done (record { stage = Idle; announced = 0; received = 0; kept = length p; active = true }) ≡ settled s p table) × (after ≡ keptSettled p table kept)
     unfolding settled keptSettled
     kept-now h kept after room a = (rw (answered, eq-eqb w 0 h), a ∙ laid-whole p kept room ∙ rw (answered, eq-eqb w 0 h))
+
+-- no number of reading or checking is over 7
+cause-low : (c : Cause) → causeNumber c ≤ 7
+cause-low unmarked = omega arith
+cause-low cut = omega arith
+cause-low over = omega arith
+
+counted-low : (room : ℕ) (s : Scan) → counted room s .number ≤ 7
+counted-low room (refused c at) = cause-low c
+counted-low room (records es) = go (ltb 8192 (length es)) (ltb room (length es))
+  where
+    go : (a b : Bool) → pick a (answer 6 0) (pick b (answer 7 (length es)) (answer 0 (length es))) .number ≤ 7
+    go true b = omega arith
+    go false true = omega arith
+    go false false = omega arith
+
+pub check-low : (p : List ℕ) (room : ℕ) → checkOf p room .number ≤ 7
+unfolding readOf
+check-low p room = rw (check-number p room) (read-low p room)
+  where
+    read-low : (p : List ℕ) (room : ℕ) → readOf p room .number ≤ 7
+    read-low p room = go (eqb (length p) 0) (ltb 65535 (length p))
+      where
+        go : (a b : Bool) → pick a (answer 1 0) (pick b (answer 2 0) (counted room (scanOf p))) .number ≤ 7
+        go true b = omega arith
+        go false true = omega arith
+        go false false = counted-low room (scanOf p)

@@ -10,22 +10,10 @@ use lib.ListN.{length, take}
 use lib.Seq.{length-take-le}
 use Rattle.session.specs.Calls.{impossible, isOffered, activateOf, isChecked, keptAfter, activatedTable}
 use Rattle.session.specs.declared.Session.{Session}
-use Rattle.session.proofs.Arising.{neither, small, some}
+use Rattle.session.proofs.Arising.{sized}
 use borrow.Author.Needs.{needs}
 use Rattle.session.proofs.activate.Statement.{statement}
 use Rattle.session.proofs.activate.Tie as tie
-
--- the pool that is checked: what the areas have room for, of a size that is announced
-sized : (s : Session) (staging kept : List ℕ) → impossible s ≡ false → isOffered (s .stage) ≡ true → (ltb (length staging) (s .announced) || ltb (length kept) (s .announced)) ≡ false
-    → (s .announced ≤ length staging) × (1 ≤ length (take (s .announced) staging)) × (length (take (s .announced) staging) ≤ 65535) × (length (take (s .announced) staging) ≤ length kept)
-sized s staging kept e o h =
-    let n = neither (ltb (length staging) (s .announced)) (ltb (length kept) (s .announced)) h in
-    let a : s .announced ≤ length staging = ltb-false (length staging) (s .announced) (n .0) in
-    let b : s .announced ≤ length kept = ltb-false (length kept) (s .announced) (n .1) in
-    let l : length (take (s .announced) staging) ≡ s .announced = length-take-le (s .announced) staging a in
-    let m = some s e o in
-    let k = small s e in
-    (a, omega arith, omega arith, omega arith)
 
 is-impossible-requires : tie.Need-is-impossible-requires
 is-impossible-requires c κs = search needs

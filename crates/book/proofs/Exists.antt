@@ -1,0 +1,160 @@
+-- Every call has an outcome that its contract allows: what a definition of the session says can be answered. Assumes nothing.
+use mathlib.Core.Path.{_≡_, refl, sym, ap, _∙_}
+use mathlib.Core.Bool.{Bool, true, false, not, _||_}
+use mathlib.Core.List.{List, [], _∷_}
+use Prim.Native.Nat.{ℕ, zero, suc, _-_, _≤_, _<_}
+use native.Mathlib.Omega.{arith}
+use borrow.Author.Tests.{not-true, not-false, eqb-true}
+use denote.Ref.{RefT, now}
+use lib.Dec.{eqb, ltb}
+use lib.ListN.{length, take}
+use Rattle.pool.specs.Answer.{Answer, answer}
+use Rattle.pool.specs.Reading.{Scan, records, refused, Cause, unmarked, cut, over, counted, pick, scanOf, readOf, roomOf}
+use Rattle.pool.proofs.Judged.{read-walk}
+use Rattle.rules.specs.Table.{breachesOf}
+use Rattle.checker.specs.Checking.{checkOf}
+use Rattle.session.specs.Answers.{replyOf}
+use Rattle.session.specs.Calls as S
+use Rattle.session.specs.declared.Answer.the-variants.{Done, NoMark, Cut, LengthOver, TooMany, TableShort, BadSize, NotOffered, BadPiece, Incomplete, Faulty, NotActive, NoRoom, CannotArise}
+use Rattle.session.specs.declared.Session.{Session}
+use Rattle.session.specs.declared.Stage.the-variants.{Idle, Offered}
+use Rattle.session.specs.declared.Step.{Step}
+use Rattle.session.proofs.Arising.{sized}
+use Rattle.book.specs.Book.{Call, offer, transfer, activate, deactivate, delete, lost}
+use Rattle.book.specs.Run.{Does, does-offer, does-transfer, does-activate, does-deactivate, does-delete, does-lost, Runs, ends, goes}
+use Rattle.book.specs.Claim.{Outcome}
+
+-- a step by which something is told
+record Real (t : S.Told) : Type 0 where
+  step : Step
+  tells : S.stepOf step ≡ t
+
+either : (b : Bool) {x y : S.Told} → (b ≡ true → Real x) → (b ≡ false → Real y) → Real (S.choose b x y)
+either true f g = f refl
+either false f g = g refl
+
+-- what checking can say of a pool that is neither empty nor too long
+data Shape : Answer → Type 0 where
+  shape-read : (n : ℕ) → Shape (answer 0 n)
+  shape-mark : (at : ℕ) → Shape (answer 3 at)
+  shape-cut : (at : ℕ) → Shape (answer 4 at)
+  shape-over : (at : ℕ) → Shape (answer 5 at)
+  shape-many : Shape (answer 6 0)
+  shape-short : (n : ℕ) → Shape (answer 7 n)
+
+shape-counted : (room : ℕ) (s : Scan) → Shape (counted room s)
+shape-counted room (refused unmarked at) = shape-mark at
+shape-counted room (refused cut at) = shape-cut at
+shape-counted room (refused over at) = shape-over at
+shape-counted room (records es) = go (ltb 8192 (length es)) (ltb room (length es))
+  where
+    go : (a b : Bool) → Shape (pick a (answer 6 0) (pick b (answer 7 (length es)) (answer 0 (length es))))
+    go true b = shape-many
+    go false true = shape-short (length es)
+    go false false = shape-read (length es)
+
+shape-picked : (n : ℕ) {a : Answer} → Shape a → Shape (pick (eqb (a .number) 0) (answer 0 n) a)
+shape-picked n (shape-read m) = shape-read n
+shape-picked n (shape-mark at) = shape-mark at
+shape-picked n (shape-cut at) = shape-cut at
+shape-picked n (shape-over at) = shape-over at
+shape-picked n shape-many = shape-many
+shape-picked n (shape-short m) = shape-short m
+
+shape-checked : (p : List ℕ) (room : ℕ) → 1 ≤ length p → length p ≤ 65535 → Shape (checkOf p room)
+unfolding checkOf
+shape-checked p room some few = rw (read-walk p room some few) (shape-picked (length (breachesOf p)) (shape-counted room (scanOf p)))
+
+real-decided : (s : Session) (p : List ℕ) (a : Answer) → Shape a → Real (S.decided s p a)
+real-decided s p a (shape-read n) =
+    either (not (eqb n 0))
+    (λ e. record { step = record { session = S.ended s; answer = Faulty (S.firstIn (breachesOf p) .number) (S.firstIn (breachesOf p) .rule) (S.firstIn (breachesOf p) .item) }; tells = refl })
+    (λ e. record { step = record { session = record { stage = Idle; announced = 0; received = 0; kept = length p; active = true }; answer = Done }; tells = refl })
+real-decided s p a (shape-mark at) = record { step = record { session = S.ended s; answer = NoMark at }; tells = refl }
+real-decided s p a (shape-cut at) = record { step = record { session = S.ended s; answer = Cut at }; tells = refl }
+real-decided s p a (shape-over at) = record { step = record { session = S.ended s; answer = LengthOver at }; tells = refl }
+real-decided s p a shape-many = record { step = record { session = S.ended s; answer = TooMany }; tells = refl }
+real-decided s p a (shape-short n) = record { step = record { session = s; answer = TableShort n }; tells = refl }
+
+impossible-told : (s : Session) → Real (S.refused s 27)
+impossible-told s = record { step = record { session = s; answer = CannotArise }; tells = refl }
+
+real-offer : (s : Session) (n ls lk : ℕ) → Real (S.offerOf s n ls lk)
+unfolding S.offerOf
+real-offer s n ls lk =
+    either (S.impossible s) (λ e. impossible-told s) (λ e.
+    either (eqb n 0 || ltb 65535 n) (λ e. record { step = record { session = s; answer = BadSize }; tells = refl }) (λ e.
+    either (ltb ls n || ltb lk n) (λ e. record { step = record { session = s; answer = NoRoom }; tells = refl })
+    (λ e. record { step = record { session = record { stage = Offered; announced = n; received = 0; kept = s .kept; active = s .active }; answer = Done }; tells = refl })))
+
+real-transfer : (s : Session) (piece : List ℕ) (ls : ℕ) → Real (S.transferOf s piece ls)
+unfolding S.transferOf
+real-transfer s piece ls =
+    either (S.impossible s) (λ e. impossible-told s) (λ e.
+    either (not (S.isOffered (s .stage))) (λ e. record { step = record { session = s; answer = NotOffered }; tells = refl }) (λ e.
+    either (eqb (length piece) 0 || ltb (s .announced - s .received) (length piece)) (λ e. record { step = record { session = s; answer = BadPiece }; tells = refl }) (λ e.
+    either (ltb ls (s .announced)) (λ e. record { step = record { session = s; answer = NoRoom }; tells = refl })
+    (λ e. record { step = record { session = _; answer = Done }; tells = refl }))))
+
+real-activate : (s : Session) (staging : List ℕ) (kept table : List ℕ) → Real (S.activateOf s staging (length kept) table)
+unfolding S.activateOf S.keptActivated S.settled
+real-activate s staging kept table =
+    either (S.impossible s) (λ e. impossible-told s) (λ e.
+    either (not (S.isOffered (s .stage)))
+    (λ o.
+    either (eqb (s .kept) 0) (λ e. record { step = record { session = s; answer = NotOffered }; tells = refl }) (λ z.
+    either (ltb (length kept) (s .kept)) (λ e. record { step = record { session = s; answer = NoRoom }; tells = refl })
+    (λ z. record { step = record { session = _; answer = Done }; tells = refl })))
+    (λ o.
+    either (ltb (s .received) (s .announced)) (λ z. record { step = record { session = s; answer = Incomplete }; tells = refl }) (λ z.
+    either (ltb (length staging) (s .announced) || ltb (length kept) (s .announced)) (λ z. record { step = record { session = s; answer = NoRoom }; tells = refl }) (λ h.
+    let w = sized s staging kept e (not-false (S.isOffered (s .stage)) o) h in
+    real-decided s (take (s .announced) staging) (checkOf (take (s .announced) staging) (roomOf table))
+    (shape-checked (take (s .announced) staging) (roomOf table) (w .1) (w .2))))))
+
+real-deactivate : (s : Session) → Real (S.deactivateOf s)
+unfolding S.deactivateOf
+real-deactivate s =
+    either (S.impossible s) (λ e. impossible-told s) (λ e.
+    either (not (s .active)) (λ e. record { step = record { session = s; answer = NotActive }; tells = refl })
+    (λ e. record { step = record { session = _; answer = Done }; tells = refl }))
+
+real-delete : (s : Session) → Real (S.deleteOf s)
+unfolding S.deleteOf
+real-delete s = either (S.impossible s) (λ e. impossible-told s) (λ e. record { step = record { session = _; answer = Done }; tells = refl })
+
+real-lost : (s : Session) → Real (S.lostOf s)
+unfolding S.lostOf
+real-lost s = either (S.impossible s) (λ e. impossible-told s) (λ e. record { step = record { session = _; answer = Done }; tells = refl })
+
+-- one call, over a reference to each list
+ref : List ℕ → RefT (List ℕ)
+ref l = record { ptr = (0, 0); name = 0; now = l }
+
+record One (s : Session) (st k : List ℕ) (c : Call) : Type 0 where
+  step : Step
+  staging : List ℕ
+  area : List ℕ
+  does : Does s st k c step staging area
+
+one : (c : Call) (s : Session) (st k : List ℕ) → One s st k c
+unfolding ref
+one (offer n) s st k =
+    let r = real-offer s n (length st) (length k) in
+    record { step = r .step; staging = st; area = k; does = does-offer ([], ([], tt)) s n (ref st) (ref k) (r .step) tt (r .tells) }
+one (transfer p) s st k =
+    let r = real-transfer s p (length st) in
+    record { step = r .step; staging = S.stagingAfter s p st; area = k; does = does-transfer ([], ([], tt)) s (ref p) (ref st) k (r .step) (S.stagingAfter s p st) tt (r .tells, refl) }
+one (activate t) s st k =
+    let r = real-activate s st k t in
+    record { step = r .step; staging = st; area = S.keptAfter s st k t; does = does-activate ([], ([], ([], tt))) s (ref st) (ref k) (ref t) (r .step) (S.keptAfter s st k t) (S.activatedTable s st (length k) t) tt (r .tells, refl, refl) }
+one deactivate s st k = let r = real-deactivate s in record { step = r .step; staging = st; area = k; does = does-deactivate tt s st k (r .step) tt (r .tells) }
+one delete s st k = let r = real-delete s in record { step = r .step; staging = st; area = k; does = does-delete tt s st k (r .step) tt (r .tells) }
+one lost s st k = let r = real-lost s in record { step = r .step; staging = st; area = k; does = does-lost tt s st k (r .step) tt (r .tells) }
+
+pub runs-on : (cs : List Call) (s : Session) (st k : List ℕ) → Outcome s st k cs
+runs-on [] s st k = record { answers = []; session = s; staging-left = st; kept-left = k; run = ends s st k }
+runs-on (c ∷ cs) s st k =
+    let d = one c s st k in
+    let o = runs-on cs (d .step .session) (d .staging) (d .area) in
+    record { answers = d .step .answer ∷ o .answers; session = o .session; staging-left = o .staging-left; kept-left = o .kept-left; run = goes (d .does) (o .run) }

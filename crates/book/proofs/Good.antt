@@ -1,0 +1,98 @@
+-- What holds of every book that a list of calls leads to, and of the areas beside it. Assumes nothing.
+use mathlib.Core.Path.{_≡_, refl, sym, ap, _∙_}
+use mathlib.Core.Bool.{Bool, true, false, not, _&&_, _||_, true≢false}
+use mathlib.Core.List.{List, []}
+use Prim.Native.Nat.{ℕ, _≤_, _<_}
+use native.Mathlib.Omega.{arith}
+use borrow.Author.Tests.{le-ltb, eq-eqb, ne-eqb}
+use lib.Dec.{eqb, ltb}
+use lib.ListN.{length}
+use Rattle.session.specs.Calls.{isOffered, impossible}
+use Rattle.book.specs.Book.{Book, blank, over}
+use Rattle.book.specs.Run.{stageOf, sessionOf, Starts}
+
+-- ls and lk are the lengths of staging and of the kept area
+pub record Good (ls lk : ℕ) (b : Book) (st k : List ℕ) : Type 0 where
+  pub long-st : length st ≡ ls
+  pub long-k : length k ≡ lk
+  pub size : b .announced ≤ 65535
+  pub kept-size : length (b .kept) ≤ 65535
+  pub part : length (b .arrived) ≤ b .announced
+  pub in-st : b .announced ≤ ls
+  pub in-k : b .announced ≤ lk
+  pub kept-in : length (b .kept) ≤ lk
+  pub some : b .offered ≡ true → 0 < b .announced
+  pub none : b .offered ≡ false → b .announced ≡ 0
+  pub live : b .active ≡ true → 0 < length (b .kept)
+  pub staged : Starts st (b .arrived)
+  pub stored : Starts k (b .kept)
+
+-- no test of a value that can't arise holds
+all-false : (a b c d f g : Bool) → a ≡ false → b ≡ false → c ≡ false → d ≡ false → f ≡ false → g ≡ false → (((((a || b) || c) || d) || f) || g) ≡ false
+all-false a b c d f g ea eb ec ed ef eg = rw (ea, eb, ec, ed, ef, eg)
+
+pub offered-stage : (o : Bool) → isOffered (stageOf o) ≡ o
+offered-stage true = refl
+offered-stage false = refl
+
+not-zero : (a : Bool) (n : ℕ) → (a ≡ true → 0 < n) → (a && eqb n 0) ≡ false
+not-zero true n h = ne-eqb n 0 (λ (z : n ≡ 0). let k = h refl in omega arith)
+not-zero false n h = refl
+
+no-traces : (o : Bool) (n r : ℕ) → (o ≡ false → n ≡ 0) → r ≤ n → (not (isOffered (stageOf o)) && (not (eqb n 0) || not (eqb r 0))) ≡ false
+no-traces true n r h l = refl
+no-traces false n r h l =
+    let z : n ≡ 0 = h refl in
+    let y : r ≡ 0 = omega arith in
+    rw (eq-eqb n 0 z, eq-eqb r 0 y)
+
+pub possible : (ls lk : ℕ) (b : Book) (st k : List ℕ) → Good ls lk b st k → impossible (sessionOf b) ≡ false
+unfolding impossible
+possible ls lk b st k g =
+    all-false (ltb 65535 (b .announced)) (ltb 65535 (length (b .kept))) (isOffered (stageOf (b .offered)) && eqb (b .announced) 0)
+    (ltb (b .announced) (length (b .arrived)))
+    (b .active && eqb (length (b .kept)) 0)
+    (not (isOffered (stageOf (b .offered))) && (not (eqb (b .announced) 0) || not (eqb (length (b .arrived)) 0)))
+    (le-ltb 65535 (b .announced) (g .size))
+    (le-ltb 65535 (length (b .kept)) (g .kept-size))
+    (not-zero (isOffered (stageOf (b .offered))) (b .announced) (λ (o : isOffered (stageOf (b .offered)) ≡ true). g .some (sym (offered-stage (b .offered)) ∙ o)))
+    (le-ltb (b .announced) (length (b .arrived)) (g .part))
+    (not-zero (b .active) (length (b .kept)) (g .live))
+    (no-traces (b .offered) (b .announced) (length (b .arrived)) (g .none) (g .part))
+
+-- the book of a new session, and a stage's end
+pub blank-good : (st k : List ℕ) → Good (length st) (length k) blank st k
+blank-good st k =
+    record {
+      long-st = refl;
+      long-k = refl;
+      size = omega arith;
+      kept-size = omega arith;
+      part = omega arith;
+      in-st = omega arith;
+      in-k = omega arith;
+      kept-in = omega arith;
+      some = λ o. absurd (true≢false (sym o));
+      none = λ o. refl;
+      live = λ a. absurd (true≢false (sym a));
+      staged = refl;
+      stored = refl;
+    }
+
+pub over-good : (ls lk : ℕ) (b : Book) (st k : List ℕ) → Good ls lk b st k → Good ls lk (over b) st k
+over-good ls lk b st k g =
+    record {
+      long-st = g .long-st;
+      long-k = g .long-k;
+      size = omega arith;
+      kept-size = g .kept-size;
+      part = omega arith;
+      in-st = omega arith;
+      in-k = omega arith;
+      kept-in = g .kept-in;
+      some = λ o. absurd (true≢false (sym o));
+      none = λ o. refl;
+      live = g .live;
+      staged = refl;
+      stored = g .stored;
+    }
