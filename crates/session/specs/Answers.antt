@@ -1,6 +1,7 @@
 -- What a session call answers, in the numbers of document 01. Definitions only.
 use Prim.Native.Nat.{ℕ}
 use Rattle.faults.specs.Faults.{Fault, fault}
+use Rattle.session.specs.declared.Numbers.{Numbers}
 use Rattle.session.specs.declared.Answer.{Answer}
 use Rattle.session.specs.declared.Answer.the-variants.{Done, NoMark, Cut, LengthOver, TooMany, TableShort, BadSize, NotOffered, BadPiece, Incomplete, Faulty, NotActive, NoRoom, CannotArise}
 
@@ -31,3 +32,7 @@ replyOf (Faulty number rule item) = faulty (fault number rule item)
 replyOf NotActive = reply 25 0
 replyOf NoRoom = reply 26 0
 replyOf CannotArise = reply 27 0
+
+-- an answer's numbers as they are given out
+abbrev pub replyIn : Numbers → Reply
+replyIn n = record { number = n .number; place = n .place; first = fault (n .«record») (n .rule) (n .item) }

@@ -7,7 +7,7 @@ ghost use lib.ListN.{length};
 ghost use lib.Seq.{sets};
 ghost use Rattle.pool.specs.Reading.{tableAfter};
 ghost use Rattle.checker.specs.Checking.{verdictOf};
-ghost use Rattle.session.specs.Answers.{reply, replyOf};
+ghost use Rattle.session.specs.Answers.{reply, replyOf, replyIn};
 ghost use Rattle.session.specs.Calls.{isOffered, newSession, ended, impossible, stepOf, refused, offerOf, transferOf, stagingAfter, keptActivated, settled, keptSettled, activateOf, keptAfter, activatedTable, deactivateOf, deleteOf, lostOf};
 
 pub enum Stage {
@@ -44,6 +44,15 @@ pub enum Answer {
 pub struct Step {
     pub session: Session,
     pub answer: Answer,
+}
+
+// An answer in numbers.
+pub struct Numbers {
+    pub number: u32,
+    pub place: usize,
+    pub record: u16,
+    pub rule: u16,
+    pub item: u16,
 }
 
 pub fn new() -> Session
@@ -302,5 +311,45 @@ pub fn lost(s: Session) -> Step
             active: false,
         },
         answer: Answer::Done,
+    }
+}
+
+fn plain(number: u32, place: usize) -> Numbers
+    ensures { λ r. ⌜ replyIn r ≡ reply number place ⌝ }
+{
+    Numbers {
+        number,
+        place,
+        record: 0,
+        rule: 0,
+        item: 0,
+    }
+}
+
+// Document 01's number for an answer, with the place or the first fault that goes with it; zeros else.
+pub fn numbers_of(answer: Answer) -> Numbers
+    ensures { λ r. ⌜ replyIn r ≡ replyOf answer ⌝ }
+{
+    match answer {
+        Answer::Done => plain(0, 0),
+        Answer::NoMark(at) => plain(3, at),
+        Answer::Cut(at) => plain(4, at),
+        Answer::LengthOver(at) => plain(5, at),
+        Answer::TooMany => plain(6, 0),
+        Answer::TableShort(needed) => plain(7, needed),
+        Answer::BadSize => plain(20, 0),
+        Answer::NotOffered => plain(21, 0),
+        Answer::BadPiece => plain(22, 0),
+        Answer::Incomplete => plain(23, 0),
+        Answer::Faulty { record, rule, item } => Numbers {
+            number: 24,
+            place: 0,
+            record,
+            rule,
+            item,
+        },
+        Answer::NotActive => plain(25, 0),
+        Answer::NoRoom => plain(26, 0),
+        Answer::CannotArise => plain(27, 0),
     }
 }

@@ -1,2 +1,3 @@
 -- What the contracts of `terminal` cite.
 pub mod Numbers
+pub mod Sessions

@@ -1,5 +1,8 @@
 // The C interface: numbers and lent memory. A refusal is its number; what goes with it is put into a lent number.
 use device::DeviceLabels;
+
+pub mod sessions;
+
 ghost use mathlib.Core.Path.{_≡_};
 ghost use Rattle.pool.specs.Reading.{readOf, roomOf, tableAfter};
 ghost use Rattle.text.specs.Examined.{soundText};
