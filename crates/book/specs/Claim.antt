@@ -1,6 +1,6 @@
 -- Demand 3 as one claim: every list of session calls, from a new session, over any two areas, whatever the pieces and tables.
 -- Definitions only.
-use Prim.Native.Nat.{ℕ, _≤_}
+use Prim.Native.Nat.{ℕ, _+_, _≤_}
 use mathlib.Core.Path.{_≡_}
 use mathlib.Core.Bool.{true}
 use mathlib.Core.Logic.{_↔_}

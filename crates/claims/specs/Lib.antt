@@ -1,5 +1,3 @@
 -- What the contracts of `claims` cite.
 pub mod Reads
 pub mod Checks
-pub mod Pools
-pub mod Starred

@@ -3,7 +3,6 @@ ghost use mathlib.Core.List.{List};
 ghost use Prim.Native.Nat.{ℕ};
 ghost use Rattle.claims.specs.Reads.{Reads};
 ghost use Rattle.claims.specs.Checks.{Checks};
-ghost use Rattle.claims.specs.Starred.{cases, Hold};
 
 pub fn reading_is_division()
     ensures { λ _. ⌜ ((p : List ℕ) (room : ℕ) → Reads p room) ⌝ }
@@ -11,8 +10,4 @@ pub fn reading_is_division()
 
 pub fn checking_lists_breaches()
     ensures { λ _. ⌜ Checks ⌝ }
-{}
-
-pub fn starred_cases_hold()
-    ensures { λ _. ⌜ Hold cases ⌝ }
 {}

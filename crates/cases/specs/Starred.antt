@@ -3,13 +3,14 @@
 use Prim.Native.Nat.{ℕ}
 use mathlib.Core.Path.{_≡_}
 use mathlib.Core.List.{List, [], _∷_}
-use lib.ListN.{take}
+use lib.ListN.{take, replicate}
 use Rattle.pool.specs.Answer.{Answer, answer}
 use Rattle.pool.specs.Reading.{readOf}
 use Rattle.faults.specs.Faults.{Fault, fault}
 use Rattle.rules.specs.Table.{breachesOf}
 use Rattle.checker.specs.Checking.{checkOf}
-use Rattle.claims.specs.Pools.{poolWith, poolP, poolQ, named}
+use Rattle.book.specs.Book.{Said, said, blank, saidOf, Call, offer, transfer, activate}
+use Rattle.cases.specs.Pools.{poolWith, poolP, poolQ, named}
 
 -- a case: what is computed, and what it has to be
 pub record Case : Type 1 where
@@ -27,6 +28,15 @@ checks p a = record { of = Answer; is = checkOf p 2048; due = a }
 -- the breach list
 abbrev pub breaches : List ℕ → List Fault → Case
 breaches p fs = record { of = List Fault; is = breachesOf p; due = fs }
+
+-- a session over two areas of 100 bytes: what the last of some calls is told, which the one claim makes the session's answer
+abbrev pub lastOf : List Said → Said
+lastOf [] = said 0 0
+lastOf (q ∷ []) = q
+lastOf (q ∷ (r ∷ qs)) = lastOf (r ∷ qs)
+
+abbrev pub tells : List Call → Said → Case
+tells cs q = record { of = Said; is = lastOf (saidOf 100 100 blank cs); due = q }
 
 abbrev pub cases : List Case
 cases =
@@ -48,6 +58,8 @@ cases =
     -- P with the parent 1: its device element's chain never ends
     ∷ checks (poolWith 1) (answer 0 1)
     ∷ breaches (poolWith 1) (fault 2 9 1 ∷ [])
+    -- Q is announced with 71 bytes, its first 44 are sent: activating is refused with 23
+    ∷ tells (offer 71 ∷ transfer (take 44 poolQ) ∷ activate (replicate 40 0) ∷ []) (said 23 0)
     ∷ []
 
 -- every case of a list holds

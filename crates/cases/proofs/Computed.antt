@@ -1,0 +1,21 @@
+-- The worked cases, by computation. Assumes nothing.
+use mathlib.Core.Path.{refl}
+use Rattle.wire.specs.Bytes.{leOf, numberAt, signedOf}
+use Rattle.records.specs.Layout.{mark, layout, markOf}
+use Rattle.records.specs.Extents.{fieldEnd, extentOf}
+use Rattle.records.specs.Fields.{fieldAt, idOf, deviceOf, elementOf, entryOf, processDataOf, propertyOf, presentationOf}
+use Rattle.pool.specs.Reading.{scanFrom, scanOf, readOf}
+use Rattle.text.specs.Octets.{width}
+use Rattle.text.specs.Characters.{charactersIn}
+use Rattle.text.specs.Examined.{soundText}
+use Rattle.faults.specs.Rows.{upTo, inRows, inRecords}
+use Rattle.naming.specs.Naming.{firstOf, named, parentOf, climb, tagOf, among}
+use Rattle.rules.specs.Table.{repeats, unsound, doubled, kindRows, breachesIn, breachesOf}
+use Rattle.checker.specs.Checking.{checkOf}
+use Rattle.book.specs.Book.{noted, bookOf, saidOf}
+use Rattle.cases.specs.Starred.{cases, Hold}
+use Rattle.cases.specs.Worked.{Worked}
+
+pub computed : Hold cases × Worked
+unfolding leOf numberAt signedOf mark layout markOf fieldEnd extentOf fieldAt idOf deviceOf elementOf entryOf processDataOf propertyOf presentationOf scanFrom scanOf readOf width charactersIn soundText upTo inRows inRecords firstOf named parentOf climb tagOf among repeats unsound doubled kindRows breachesIn breachesOf checkOf noted bookOf saidOf
+computed = ((refl, (refl, (refl, (refl, (refl, (refl, (refl, (refl, (refl, (refl, (refl, (refl, tt)))))))))))), record { told = refl; kept = refl; still = refl; gone = refl })

@@ -1,0 +1,4 @@
+-- What the contracts of `cases` cite.
+pub mod Pools
+pub mod Starred
+pub mod Worked
