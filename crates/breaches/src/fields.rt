@@ -18,7 +18,7 @@ ghost use Rattle.rules.specs.Table.{unsound, badId, badLabel, badScale, badSour
 fn is_unsound(p: &[u8], s: Span) -> bool
     ensures { λ r. ⌜ r ≡ unsound (now (p .entry)) s ⌝ }
 {
-    !text::is_sound(records::view::part(p, s))
+    !text::is_sound_in(p, s.from, s.to)
 }
 
 // Rule 1: a device has the ID 0, and nothing else has 0 or 65535.

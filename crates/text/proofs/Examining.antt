@@ -14,7 +14,8 @@ use Rattle.text.proofs.Widths.{and-false, single}
 use Rattle.text.proofs.Steps.{first-differs}
 use Rattle.text.proofs.Derived.{complete, sound}
 
-both : (x y : Bool) → x && y ≡ true → (x ≡ true) × (y ≡ true)
+-- two tests joined
+pub both : (x y : Bool) → x && y ≡ true → (x ≡ true) × (y ≡ true)
 both true y e = (refl, e)
 both false y e = absurd (true≢false (sym e))
 

@@ -3,3 +3,4 @@ pub mod Widths
 pub mod Steps
 pub mod Derived
 pub mod Examining
+pub mod Words

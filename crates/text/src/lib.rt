@@ -1,10 +1,11 @@
 // One text of a pool: whether it is well-formed UTF-8 (RFC 3629), does not begin with the mark EF BB BF and has at most 32
 // characters.
+use records::Span;
 ghost use mathlib.Core.Path.{_≡_};
-ghost use mathlib.Core.Bool.{cond, _&&_};
+ghost use mathlib.Core.Bool.{true, cond, _&&_};
 ghost use mathlib.Core.List.{List};
-ghost use Prim.Native.Nat.{ℕ, _≤_, _<_};
-ghost use lib.ListN.{length, getD};
+ghost use Prim.Native.Nat.{ℕ, _+_, _-_, _≤_, _<_};
+ghost use lib.ListN.{length, getD, take, drop};
 ghost use Rattle.text.specs.Octets as O;
 ghost use Rattle.text.specs.Characters.{charactersIn, widthAt};
 ghost use Rattle.text.specs.Examined.{soundText, marked, few, Examined};
@@ -157,8 +158,8 @@ fn highest(s: &[u8]) -> u8
     high
 }
 
-// The examiner of a text: rule 4. Most texts are short and of single bytes, and then nothing is wrong with them.
-pub fn is_sound(s: &[u8]) -> bool
+// The bytes of a text one by one.
+fn is_sound_slice(s: &[u8]) -> bool
     ensures { λ r. ⌜ r ≡ soundText (now (s .entry)) ⌝ }
 {
     if s.len() <= 32 {
@@ -170,6 +171,53 @@ pub fn is_sound(s: &[u8]) -> bool
         return false;
     }
     is_few(s)
+}
+
+// Whether those of 8 bytes are below 80 that are the text's. Byte k of the subtracted word is reach - k, which is 80 or more
+// exactly in the text.
+fn is_single_word(p: &[u8], at: usize, reach: usize) -> bool
+    requires { ⌜ (at + 8 ≤ length (now p)) × (7 ≤ reach) × (reach < 256) ⌝ }
+    ensures { λ r. ⌜ (r ≡ true → (k : ℕ) → k < 8 → 0x80 + k ≤ reach → getD (now (p .entry)) (at + k) 0 < 0x80) ⌝ }
+{
+    let reaches = reach as u64 * 0x0101010101010101 - 0x0706050403020100;
+    ((wire::word(p, at) & reaches) & 0x8080808080808080) == 0
+}
+
+// Whether the first n bytes from a place on are below 80. It looks at 32 bytes whatever n is: a branch on the length of a
+// text costs more than that.
+fn is_single(p: &[u8], from: usize, n: usize) -> bool
+    requires { ⌜ (from + 32 ≤ length (now p)) × (n ≤ 32) ⌝ }
+    ensures { λ r. ⌜ (r ≡ true → (k : ℕ) → k < n → getD (now (p .entry)) (from + k) 0 < 0x80) ⌝ }
+{
+    is_single_word(p, from, n + 127)
+        & is_single_word(p, from + 8, n + 119)
+        & is_single_word(p, from + 16, n + 111)
+        & is_single_word(p, from + 24, n + 103)
+}
+
+// The examiner of a text, by where it stands: rule 4. Most texts are short and of single bytes, and then nothing is wrong
+// with them.
+pub fn is_sound_in(p: &[u8], from: usize, to: usize) -> bool
+    ensures { λ r. ⌜ r ≡ soundText (take (to - from) (drop from (now (p .entry)))) ⌝ }
+{
+    if from <= to {
+        if to - from <= 32 {
+            if from <= p.len() {
+                if 32 <= p.len() - from {
+                    if is_single(p, from, to - from) {
+                        return true;
+                    }
+                }
+            }
+        }
+    }
+    is_sound_slice(records::view::part(p, Span { from, to }))
+}
+
+pub fn is_sound(s: &[u8]) -> bool
+    ensures { λ r. ⌜ r ≡ soundText (now (s .entry)) ⌝ }
+{
+    is_sound_in(s, 0, s.len())
 }
 
 // The examiner finds a text sound exactly if the grammar of RFC 3629 derives it, with at most 32 characters and without the

@@ -1,4 +1,4 @@
-// Little-endian numbers in bytes, and copying. Every function takes any slice, place and number.
+// Little-endian numbers in bytes, and copying. Every public function but `word` takes any slice, place and number.
 ghost use mathlib.Core.Path.{_≡_};
 ghost use Prim.Native.Nat.{_+_, _≤_, _<_, _^_};
 ghost use lib.Dec.{leb};
@@ -61,6 +61,14 @@ pub fn read_u64(s: &[u8], at: usize) -> u64
     ensures { λ r. ⌜ r ≡ numberAt 8 (now (s .entry)) at ⌝ }
 {
     number_at(s, at, 8)
+}
+
+// The same where the caller knows that all 8 bytes are there, without a test.
+pub fn word(s: &[u8], at: usize) -> u64
+    requires { ⌜ at + 8 ≤ length (now s) ⌝ }
+    ensures { λ r. ⌜ r ≡ numberAt 8 (now (s .entry)) at ⌝ }
+{
+    number(s, at, 8)
 }
 
 // Two's complement, without a cast that loses bits.

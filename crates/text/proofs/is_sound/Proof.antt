@@ -1,29 +1,21 @@
--- `text::is_sound` meets its contract. Assumes nothing.
-use mathlib.Core.Path.{_≡_, refl, sym, _∙_}
-use Rattle.text.proofs.Examining.{sound-marked, sound-counted, sound-single}
+-- `text::is_sound` meets its contract: the whole slice is the text. Assumes nothing.
+use mathlib.Core.Path.{_≡_, ap, _∙_}
+use Prim.Native.Nat.{_-_}
+use native.Mathlib.Omega.{arith}
 use borrow.Author.Needs.{needs}
+use lib.ListN.{length}
+use lib.Seq.{take-all}
+use Rattle.text.specs.Examined.{soundText}
 use Rattle.text.proofs.is_sound.Statement.{statement}
 use Rattle.text.proofs.is_sound.Tie as tie
 
-highest-requires : tie.Need-highest-requires
-highest-requires c κs = search needs
+is-sound-in-requires : tie.Need-is-sound-in-requires
+is-sound-in-requires c κs = search needs
 
 returns : tie.Need-returns
-returns c = sym (sound-single (c .before .before .before .before .args .s .now) (c .before .highest .result) (c .before .highest .ensures) (c .if2 .taken) (c .before .before .if1 .taken))
-
-is-marked-requires : tie.Need-is-marked-requires
-is-marked-requires c κs = search needs
-
-returns-2 : tie.Need-returns-2
-returns-2 c = sym (sound-marked (c .before .before .before .before .args .s .now) (sym (c .before .is-marked .ensures) ∙ c .if3 .taken))
-
-is-few-requires : tie.Need-is-few-requires
-is-few-requires c κs = search needs
-
-returns-3 : tie.Need-returns-3
-returns-3 c = c .is-few .ensures ∙ sym (sound-counted (c .before .before .before .before .before .args .s .now) _ (sym (c .before .before .is-marked .ensures) ∙ c .before .if3 .left) refl)
+returns c =
+    let s = c .before .before .args .s .now in
+    c .is-sound-in .ensures ∙ ap soundText (take-all (length s - 0) s (omega arith))
 
 pub is-sound-spec : {M : Type 1} → statement M
-is-sound-spec =
-    tie.close
-    (tie.spec highest-requires returns is-marked-requires returns-2 is-few-requires returns-3)
+is-sound-spec = tie.close (tie.spec is-sound-in-requires returns)
