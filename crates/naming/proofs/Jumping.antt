@@ -4,6 +4,7 @@ use mathlib.Core.Bool.{Bool, true, false, not, _||_, true≢false}
 use mathlib.Core.List.{List}
 use Prim.Native.Nat.{ℕ, _+_, _≤_, _<_}
 use native.Mathlib.Decide.{ℕ-discrete}
+use native.Mathlib.Numerals.{add-one}
 use native.Mathlib.Omega.{arith}
 use borrow.Author.Tests.{eqb-true, not-false}
 use lib.Dec.{eqb}
@@ -98,6 +99,41 @@ jump-end n before ups left r h j = (
   λ (f : ℕ → ℕ) (m : ℕ) (z : f 0 ≡ 0) (c : Climbs f n m before) (q : ℕ) (l : q ≤ n). j .doubling f m z c .twice q (omega arith),
   λ (t : left ≡ false) (q : ℕ) (l : q ≤ n). j .zeros t q (omega arith),
 )
+
+-- ---- the first step, from each number to one that may be before it
+
+-- what holds when the numbers up to i have been stepped from
+pub record Rising (f : ℕ → ℕ) (i : ℕ) (ups : List ℕ) (left : Bool) : Type 0 where
+  pub climbs : Climbs f i 1 ups
+  pub zeros : left ≡ false → (q : ℕ) → q ≤ i → getD ups q 0 ≡ 0
+
+pub rise-start : (f : ℕ → ℕ) (ups : List ℕ) → f 0 ≡ 0 → getD ups 0 0 ≡ 0 → Rising f 0 ups false
+rise-start f ups z e =
+    record {
+      climbs = λ (q : ℕ) (l : q ≤ 0). let s : q ≡ 0 = omega arith in rw s (1, omega arith, e ∙ sym (climb-zero f 1 z));
+      zeros = λ t (q : ℕ) (l : q ≤ 0). let s : q ≡ 0 = omega arith in rw s e;
+    }
+
+module _ (f : ℕ → ℕ) (i : ℕ) (ups : List ℕ) (left : Bool) (room : i + 1 < length ups) (rising : Rising f i ups left) where
+  rise : (v : ℕ) → Climbed f 1 (i + 1) v → Rising f (i + 1) (set ups (i + 1) v) (left || not (eqb v 0))
+  rise v c =
+      record {
+        climbs = λ (q : ℕ) (l : q ≤ i + 1). stored (Climbed f 1) ups (i + 1) v room c q (λ (w : q ≡ i + 1 → ⊥). rising .climbs q (omega arith));
+        zeros = λ (t : left || not (eqb v 0) ≡ false) (q : ℕ) (l : q ≤ i + 1).
+            let b = neither left (not (eqb v 0)) t in
+            stored (λ (k x : ℕ). x ≡ 0) ups (i + 1) v room (eqb-true v 0 (not-false (eqb v 0) (b .1))) q (λ (w : q ≡ i + 1 → ⊥). rising .zeros (b .0) q (omega arith));
+      }
+
+  -- one step, and the steps of a number that has been stepped from
+  pub rise-once : (v : ℕ) → v ≡ f (i + 1) → Rising f (i + 1) (set ups (i + 1) v) (left || not (eqb v 0))
+  unfolding climb
+  rise-once v e = rise v (1, omega arith, e)
+
+  pub rise-on : (q : ℕ) → q ≡ f (i + 1) → q ≤ i → Rising f (i + 1) (set ups (i + 1) (getD ups q 0)) (left || not (eqb (getD ups q 0) 0))
+  unfolding climb
+  rise-on q e l =
+      let c = rising .climbs q l in
+      rise (getD ups q 0) (c .0 + 1, omega arith, c .2 ∙ rw (add-one (c .0)) (ap (climb f (c .0)) e))
 
 -- what the chains of parents have come to after m steps or more
 module _ (p table : List ℕ) (n m : ℕ) (ups : List ℕ) (climbs : Climbs (parentOf p (shown table n)) n m ups) where

@@ -4,20 +4,17 @@ use mathlib.Core.Bool.{cond, _&&_}
 use mathlib.Core.List.{List}
 use Prim.Native.Nat.{ℕ, _+_, _≤_, _<_}
 use native.Mathlib.Numerals.{add-one}
-use native.Mathlib.Decide.{ℕ-discrete}
 use native.Mathlib.Omega.{arith}
 use borrow.Author.Tests.{eq-eqb, ne-eqb}
 use lib.Dec.{eqb}
-use lib.ListN.{length, getD, set}
-use lib.Seq.{getD-set-same, getD-set-other}
+use lib.ListN.{getD}
 use Rattle.records.specs.Fields.{elementOf}
 use Rattle.pool.specs.Reading.{Entry}
 use Rattle.naming.specs.Records.{idAt}
-use Rattle.naming.specs.Naming.{named, kindOf, parentOf, climb}
+use Rattle.naming.specs.Naming.{named, kindOf, parentOf}
 use Rattle.naming.specs.Lists.{entryIn, shown, kindIn, Indexed}
-use Rattle.naming.specs.Steps.{Climbs}
 use Rattle.naming.proofs.Shown.{shown-long, shown-at, shown-kind}
-use Rattle.naming.proofs.Climb.{named-le, parent-le, parent-zero}
+use Rattle.naming.proofs.Climb.{named-le, parent-le}
 
 -- what looking an ID up in the list gives
 pub named-listed : (table index : List ℕ) (n x : ℕ) → Indexed (idAt (shown table n)) n index → cond (eqb x 65535) 0 (getD index x 0) ≡ named (shown table n) x
@@ -61,24 +58,3 @@ module _ (p table : List ℕ) (n i : ℕ) (inside : i < n) where
 
 pub parent-within : (p table : List ℕ) (n r : ℕ) → parentOf p (shown table n) r ≤ n
 parent-within p table n r = omega (arith, parent-le p (shown table n) r, shown-long table n)
-
--- the parents of the records up to i stand under their numbers
-abbrev pub Parents : List ℕ → List Entry → ℕ → List ℕ → Type 0
-Parents p es i ups = (r : ℕ) → r ≤ i → getD ups r 0 ≡ parentOf p es r
-
-pub parents-none : (p : List ℕ) (es : List Entry) (ups : List ℕ) → getD ups 0 0 ≡ 0 → Parents p es 0 ups
-parents-none p es ups e r h =
-    let z : r ≡ 0 = omega arith in
-    rw z (e ∙ sym (parent-zero p es))
-
-pub parents-more : (p : List ℕ) (es : List Entry) (ups : List ℕ) (i v : ℕ) → i + 1 < length ups → v ≡ parentOf p es (i + 1) → Parents p es i ups → Parents p es (i + 1) (set ups (i + 1) v)
-parents-more p es ups i v l e before r h = go (ℕ-discrete r (i + 1))
-  where
-    go : Dec (r ≡ i + 1) → getD (set ups (i + 1) v) r 0 ≡ parentOf p es r
-    go (yes q) = rw q (getD-set-same ups (i + 1) v 0 l ∙ e)
-    go (no q) = getD-set-other ups (i + 1) r v 0 q ∙ before r (omega arith)
-
--- the parents are one step up
-pub parents-climb : (p : List ℕ) (es : List Entry) (n : ℕ) (ups : List ℕ) → Parents p es n ups → Climbs (parentOf p es) n 1 ups
-unfolding climb
-parents-climb p es n ups h r l = (1, omega arith, h r l)

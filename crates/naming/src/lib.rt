@@ -8,7 +8,7 @@ ghost use Rattle.pool.specs.Reading.{width};
 ghost use Rattle.naming.specs.Records.{idAt};
 ghost use Rattle.naming.specs.Naming.{numberKey, parentOf};
 ghost use Rattle.naming.specs.Lists.{shown, kindIn, Blank, Indexed, IndexedBelow, Ended};
-ghost use Rattle.naming.specs.Steps.{entered, numberIn, Doubles};
+ghost use Rattle.naming.specs.Steps.{entered, numberIn, Climbs, Doubles};
 
 // Puts a record's number under a key that has none yet.
 fn enter(index: &mut [u16], key: u16, number: u16)
@@ -114,16 +114,24 @@ fn parent_at(p: &[u8], table: &[u16], count: usize, index: &[u16], i: usize) -> 
     0
 }
 
-// Puts the parent of each device element under its number.
-fn parents(p: &[u8], table: &[u16], count: usize, index: &[u16], ups: &mut [u16])
+// Puts under the number of each device element where a step up leads, or more steps: from a parent that stands before it on
+// to where that one's lead. Tells whether a chain is left that has not ended.
+fn parents(p: &[u8], table: &[u16], count: usize, index: &[u16], ups: &mut [u16]) -> bool
     requires { ⌜ (count * width ≤ length (now table)) × (count ≤ 8192) × Indexed (idAt (shown (now table) count)) count (now index) × (count < length (now ups)) × Blank (now ups) ⌝ }
-    ensures { λ _. ⌜ ((r : ℕ) → r ≤ count → getD (now (ups .exit)) r 0 ≡ parentOf (now (p .entry)) (shown (now (table .entry)) count) r) ⌝ }
+    ensures { λ left. ⌜ Climbs (parentOf (now (p .entry)) (shown (now (table .entry)) count)) count 1 (now (ups .exit)) × (left ≡ false → (r : ℕ) → r ≤ count → getD (now (ups .exit)) r 0 ≡ 0) ⌝ }
 {
+    let mut left = false;
     let mut i: usize = 0;
     while i < count {
-        ups[i + 1] = parent_at(p, table, count, index, i);
+        let mut up = parent_at(p, table, count, index, i);
+        if up as usize <= i {
+            up = ups[up as usize];
+        }
+        ups[i + 1] = up;
+        left = left | (up != 0);
         i += 1;
     }
+    left
 }
 
 // Replaces each step up by the step from there: at least twice as many. Tells whether a chain is left that has not ended.
@@ -147,7 +155,9 @@ pub fn chains(p: &[u8], table: &[u16], count: usize, index: &[u16], ups: &mut [u
     requires { ⌜ (count * width ≤ length (now table)) × (count ≤ 8192) × Indexed (idAt (shown (now table) count)) count (now index) × (count < length (now ups)) × Blank (now ups) ⌝ }
     ensures { λ _. ⌜ Ended (now (p .entry)) (shown (now (table .entry)) count) count (now (ups .exit)) ⌝ }
 {
-    parents(p, table, count, index, ups);
+    if !parents(p, table, count, index, ups) {
+        return;
+    }
     let mut steps: usize = 1;
     while steps < count {
         if !jump(ups, count) {

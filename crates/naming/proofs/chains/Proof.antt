@@ -8,7 +8,6 @@ use Rattle.naming.specs.Naming.{parentOf}
 use Rattle.naming.specs.Lists.{shown}
 use Rattle.naming.specs.Steps.{Climbs}
 use Rattle.naming.proofs.Climb.{parent-zero}
-use Rattle.naming.proofs.Named.{parents-climb}
 use Rattle.naming.proofs.Jumping.{climbs-zero, climbs-within, climbed-ends, none-left}
 use Rattle.naming.proofs.chains.Statement.{statement}
 use Rattle.naming.proofs.chains.Tie as tie
@@ -22,48 +21,54 @@ abbrev μ-loop : tie.MeasureT-loop
 parents-requires : tie.Need-parents-requires Inv-loop μ-loop
 parents-requires c κs = c .before .before .before .before .before .pre
 
-loop-holds : tie.Need-loop-holds Inv-loop μ-loop
-loop-holds c =
-    let a = c .before .before .before .before .before .before .before .before .args in
-    (omega arith, refl, parents-climb (a .p .now) (shown (a .table .now) (a .count)) (a .count) (c .before .before .parents .last .1 .1 .1 .1 .0) (c .before .before .parents .ensures))
-
-jump-requires : tie.Need-jump-requires Inv-loop μ-loop
-jump-requires c κs =
-    let a = c .before .before .before .before .before .before .before .before .before .before .before .args in
-    let l = c .before .before .loop in
-    (c .before .before .before .before .before .before .before .before .before .before .before .pre .1, omega (arith, l .inv .1, c .before .before .before .before .before .before .before .before .before .before .before .pre .3, c .before .before .before .before .before .parents .kept .1 .1 .1 .1 .0), climbs-zero (a .p .now) (a .table .now) (a .count) (l .steps) (l .ups) (l .inv .2), climbs-within (a .p .now) (a .table .now) (a .count) (l .steps) (l .ups) (l .inv .2))
-
 same-length : tie.Need-same-length Inv-loop μ-loop
-same-length c = c .before .before .before .jump .kept .0 ∙ c .before .before .before .before .before .before .loop .inv .1 ∙ c .before .before .before .before .before .before .before .before .before .parents .kept .1 .1 .1 .1 .0
+same-length c = c .before .before .before .parents .kept .1 .1 .1 .1 .0
 
 returns : tie.Need-returns Inv-loop μ-loop
 returns c =
-    let a = c .before .before .before .before .before .before .before .before .before .before .before .before .before .before .before .args in
+    let a = c .before .before .before .before .before .before .before .before .before .args in
+    none-left (a .p .now) (a .table .now) (a .count) 1 (c .before .before .before .parents .last .1 .1 .1 .1 .0) (c .before .before .before .parents .ensures .0) (c .before .before .before .parents .ensures .1 (not-true (c .before .before .before .parents .result) (c .if1 .taken)))
+
+loop-holds : tie.Need-loop-holds Inv-loop μ-loop
+loop-holds c = (omega arith, refl, c .before .before .before .parents .ensures .0)
+
+jump-requires : tie.Need-jump-requires Inv-loop μ-loop
+jump-requires c κs =
+    let a = c .before .before .before .before .before .before .before .before .before .before .before .before .args in
+    let l = c .before .before .loop in
+    (c .before .before .before .before .before .before .before .before .before .before .before .before .pre .1, omega (arith, l .inv .1, c .before .before .before .before .before .before .before .before .before .before .before .before .pre .3, c .before .before .before .before .before .before .parents .kept .1 .1 .1 .1 .0), climbs-zero (a .p .now) (a .table .now) (a .count) (l .steps) (l .ups) (l .inv .2), climbs-within (a .p .now) (a .table .now) (a .count) (l .steps) (l .ups) (l .inv .2))
+
+same-length-2 : tie.Need-same-length-2 Inv-loop μ-loop
+same-length-2 c = c .before .before .before .jump .kept .0 ∙ c .before .before .before .before .before .before .loop .inv .1 ∙ c .before .before .before .before .before .before .before .before .before .before .parents .kept .1 .1 .1 .1 .0
+
+returns-2 : tie.Need-returns-2 Inv-loop μ-loop
+returns-2 c =
+    let a = c .before .before .before .before .before .before .before .before .before .before .before .before .before .before .before .before .args in
     let l = c .before .before .before .before .before .before .loop in
     let es = shown (a .table .now) (a .count) in
     let more = c .before .before .before .jump .ensures .0 (parentOf (a .p .now) es) (l .steps) (parent-zero (a .p .now) es) (l .inv .2) in
-    none-left (a .p .now) (a .table .now) (a .count) (l .steps + l .steps) (c .before .before .before .jump .last .0) more (c .before .before .before .jump .ensures .1 (not-true (c .before .before .before .jump .result) (c .if1 .taken)))
+    none-left (a .p .now) (a .table .now) (a .count) (l .steps + l .steps) (c .before .before .before .jump .last .0) more (c .before .before .before .jump .ensures .1 (not-true (c .before .before .before .jump .result) (c .if2 .taken)))
 
 mul-steps : tie.Need-mul-steps Inv-loop μ-loop
-mul-steps c = omega (arith, c .before .before .before .before .before .loop-test .taken, c .before .before .before .before .before .before .before .before .before .before .before .before .before .before .before .pre .1)
+mul-steps c = omega (arith, c .before .before .before .before .before .loop-test .taken, c .before .before .before .before .before .before .before .before .before .before .before .before .before .before .before .before .pre .1)
 
 loop-less : tie.Need-loop-less Inv-loop μ-loop
 loop-less c = omega (arith, c .before .before .before .before .before .loop-test .taken, c .before .before .before .before .before .before .loop .inv .0)
 
 loop-again : tie.Need-loop-again Inv-loop μ-loop
 loop-again c =
-    let a = c .before .before .before .before .before .before .before .before .before .before .before .before .before .before .before .args in
+    let a = c .before .before .before .before .before .before .before .before .before .before .before .before .before .before .before .before .args in
     let l = c .before .before .before .before .before .before .loop in
     let es = shown (a .table .now) (a .count) in
     let twice : l .steps * 2 ≡ l .steps + l .steps = omega arith in
     (omega (arith, l .inv .0), c .before .before .before .jump .kept .0 ∙ l .inv .1, rw twice (c .before .before .before .jump .ensures .0 (parentOf (a .p .now) es) (l .steps) (parent-zero (a .p .now) es) (l .inv .2)))
 
-same-length-2 : tie.Need-same-length-2 Inv-loop μ-loop
-same-length-2 c = c .before .loop .inv .1 ∙ c .before .before .before .before .parents .kept .1 .1 .1 .1 .0
+same-length-3 : tie.Need-same-length-3 Inv-loop μ-loop
+same-length-3 c = c .before .loop .inv .1 ∙ c .before .before .before .before .before .parents .kept .1 .1 .1 .1 .0
 
-returns-2 : tie.Need-returns-2 Inv-loop μ-loop
-returns-2 c =
-    let a = c .before .before .before .before .before .before .before .before .before .before .args in
+returns-3 : tie.Need-returns-3 Inv-loop μ-loop
+returns-3 c =
+    let a = c .before .before .before .before .before .before .before .before .before .before .before .args in
     let l = c .before .loop in
     climbed-ends (a .p .now) (a .table .now) (a .count) (l .steps) (l .ups) (l .inv .2) (c .loop-test .left)
 
@@ -74,12 +79,14 @@ chains-spec =
     Inv-loop
     μ-loop
     parents-requires
-    loop-holds
-    jump-requires
     same-length
     returns
+    loop-holds
+    jump-requires
+    same-length-2
+    returns-2
     mul-steps
     loop-less
     loop-again
-    same-length-2
-    returns-2)
+    same-length-3
+    returns-3)
