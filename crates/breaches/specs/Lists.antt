@@ -7,9 +7,8 @@ use mathlib.Core.Logic.{_↔_}
 use lib.Dec.{eqb}
 use lib.ListN.{length, getD}
 use Rattle.wire.specs.Bytes.{numberAt}
-use Rattle.records.specs.Fields.{elementOf}
-use Rattle.pool.specs.Reading.{Entry, width}
-use Rattle.naming.specs.Records.{startAt, idAt, kindAt}
+use Rattle.pool.specs.Reading.{width}
+use Rattle.naming.specs.Records.{idAt}
 use Rattle.naming.specs.Naming.{numberKey, isData}
 use Rattle.naming.specs.Lists.{shown, kindIn, Indexed, IndexedBelow, Ended}
 
@@ -44,10 +43,6 @@ pub record Prepared (p table : List ℕ) (count : ℕ) (index numbers ups : List
   pub ids : Indexed (idAt (shown table count)) count index
   pub elements : IndexedBelow 65536 (numberKey p (shown table count)) count numbers
   pub chains : Ended p (shown table count) count ups
-
--- every list of entries has room in lists of so many numbers
-abbrev pub Roomy : List ℕ → List Entry → ℕ → Type 0
-Roomy p es room = (i : ℕ) → i < length es → kindAt es i ≡ 2 → elementOf p (startAt es i) .entries ≤ room
 
 -- the lists that the faults of one record are found with
 pub record Lent (room : ℕ) (list seen : List ℕ) : Type 0 where

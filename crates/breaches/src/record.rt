@@ -11,10 +11,10 @@ ghost use Rattle.faults.specs.Emission.{Puts};
 ghost use Rattle.pool.specs.Reading.{width};
 ghost use Rattle.naming.specs.Records.{startAt, idAt, kindAt};
 ghost use Rattle.naming.specs.Naming.{firstOf};
-ghost use Rattle.naming.specs.Lists.{shown, Indexed};
+ghost use Rattle.naming.specs.Lists.{shown, Indexed, Roomy};
 ghost use Rattle.rules.specs.Table.{presentedRows, elementRows, dataRows, propertyRows, recordRows};
 ghost use mathlib.Core.List.{_++_};
-ghost use Rattle.breaches.specs.Lists.{Prepared, Roomy, Lent};
+ghost use Rattle.breaches.specs.Lists.{Prepared, Lent};
 
 // A number of a list, 0 behind its end.
 pub(crate) fn number_at(list: &[u16], i: usize) -> u16

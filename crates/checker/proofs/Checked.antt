@@ -25,10 +25,9 @@ use Rattle.faults.specs.Faults.{written}
 use Rattle.faults.specs.Emission.{Emits}
 use Rattle.faults.proofs.Emission.{emits-written}
 use Rattle.naming.specs.Records.{recordAt, startAt, kindAt}
-use Rattle.naming.specs.Lists.{shown}
+use Rattle.naming.specs.Lists.{shown, Roomy}
 use Rattle.naming.proofs.Shown.{shown-flat}
 use Rattle.rules.specs.Table.{breachesIn, breachesOf}
-use Rattle.breaches.specs.Lists.{Roomy}
 use Rattle.checker.specs.Checking.{checkOf, countOf, faultsAfter}
 
 -- ---- a list of entries is no longer than its pool

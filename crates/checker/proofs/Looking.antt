@@ -1,4 +1,4 @@
--- Looking for the first record of some sort, and at every list of entries. Assumes nothing.
+-- Looking for the first record of some sort. Assumes nothing.
 use mathlib.Core.Path.{_≡_, refl, sym, ap, _∙_}
 use mathlib.Core.Bool.{Bool, true, false, cond}
 use mathlib.Core.Logic.{⊎-elim}
@@ -17,7 +17,6 @@ use Rattle.naming.specs.Naming.{firstOf, typeKey}
 use Rattle.naming.specs.Lists.{shown}
 use Rattle.naming.proofs.First.{Without, to-first, to-none}
 use Rattle.naming.proofs.Shown.{shown-long}
-use Rattle.breaches.specs.Lists.{Roomy}
 use Rattle.breaches.proofs.Tabled.{starts, kinds}
 
 pub none-yet : (key : ℕ → ℕ) (x : ℕ) → Without key x 0
@@ -37,30 +36,3 @@ first-there key x n i h w e = sym (rw (to-first key x n i h e w) (ne-eqb (suc i)
 pub type-is : (p table : List ℕ) (count i : ℕ) → i < count
     → eqb (typeKey p (shown table count) i) 1 ≡ eqb (cond (eqb (getD table (i * width + 2) 0) 2) (elementOf p (getD table (i * width) 0) .«element_type») 256) 1
 type-is p table count i h = rw (kinds table count i h, starts table count i h)
-
--- every list that has been looked at has room
-module _ (p table : List ℕ) (count room : ℕ) where
-  pub roomy-none : (i : ℕ) → i < 0 → kindAt (shown table count) i ≡ 2 → elementOf p (startAt (shown table count) i) .entries ≤ room
-  roomy-none i h e = absurd (omega arith)
-
-  pub roomy-more : (i : ℕ) → i < count → ((j : ℕ) → j < i → kindAt (shown table count) j ≡ 2 → elementOf p (startAt (shown table count) j) .entries ≤ room)
-      → (getD table (i * width + 2) 0 ≡ 2 → elementOf p (getD table (i * width) 0) .entries ≤ room)
-      → (j : ℕ) → j < i + 1 → kindAt (shown table count) j ≡ 2 → elementOf p (startAt (shown table count) j) .entries ≤ room
-  roomy-more i h before this j l e =
-      ⊎-elim
-      (λ (s : j ≡ i). here j s e)
-      (λ (s : j < i). before j s e)
-      (eq-or-lt-of-le (omega arith))
-    where
-      here : (j : ℕ) → j ≡ i → kindAt (shown table count) j ≡ 2 → elementOf p (startAt (shown table count) j) .entries ≤ room
-      here j s e = rw (s, ← starts table count i h) (this (kinds table count i h ∙ ap (kindAt (shown table count)) (sym s) ∙ e))
-
-  -- one that has none tells that not all have
-  pub roomy-not : (i : ℕ) → i < count → (t : Bool) → t ≡ false
-      → ((getD table (i * width + 2) 0 ≡ 2 → elementOf p (getD table (i * width) 0) .entries ≤ room) → t ≡ true)
-      → Roomy p (shown table count) room → false ≡ true
-  roomy-not i h t e said all =
-      sym e
-      ∙ said
-      (λ (k : getD table (i * width + 2) 0 ≡ 2).
-      rw (starts table count i h) (all i (omega (arith, shown-long table count)) (sym (kinds table count i h) ∙ k)))

@@ -11,10 +11,10 @@ ghost use Rattle.pool.specs.Reading.{width, scanOf, entriesIn, readOf, roomOf, 
 ghost use Rattle.faults.specs.Emission.{Emits, Puts};
 ghost use Rattle.naming.specs.Records.{kindAt};
 ghost use Rattle.naming.specs.Naming.{firstOf, typeKey};
-ghost use Rattle.naming.specs.Lists.{shown, Blank};
+ghost use Rattle.naming.specs.Lists.{shown, Blank, Roomy};
 ghost use Rattle.rules.specs.Table.{poolRows, breachesIn};
 ghost use Rattle.checker.specs.Checking.{verdictOf, recordsIn, checkOf, countOf, faultsAfter};
-ghost use Rattle.breaches.specs.Lists.{Prepared, Roomy, Lent};
+ghost use Rattle.breaches.specs.Lists.{Prepared, Lent};
 ghost use Rattle.checker.specs.Trying.{Told};
 
 // What checking answers: how many records the table now holds and the full count of faults, or why the pool cannot be read
@@ -125,30 +125,6 @@ fn put_all(
     n
 }
 
-// Whether a record's list of entries has room in lists of so many numbers.
-fn fits(p: &[u8], at: u16, kind: u16, room: usize) -> bool
-    ensures { λ r. ⌜ (r ≡ true → kind ≡ 2 → elementOf (now (p .entry)) at .entries ≤ room) × ((kind ≡ 2 → elementOf (now (p .entry)) at .entries ≤ room) → r ≡ true) ⌝ }
-{
-    if kind == 2 {
-        return records::view::device_element(p, at).entries as usize <= room;
-    }
-    true
-}
-
-fn all_fit(p: &[u8], table: &[u16], count: usize, room: usize) -> bool
-    requires { ⌜ (count * width ≤ length (now table)) × (count ≤ 8192) ⌝ }
-    ensures { λ r. ⌜ (r ≡ true → Roomy (now (p .entry)) (shown (now (table .entry)) count) room) × (Roomy (now (p .entry)) (shown (now (table .entry)) count) room → r ≡ true) ⌝ }
-{
-    let mut i: usize = 0;
-    while i < count {
-        if !fits(p, table[i * 4], table[i * 4 + 2], room) {
-            return false;
-        }
-        i += 1;
-    }
-    true
-}
-
 // Finds out what IDs name and which chains end. Tells whether the lists are long enough for this pool.
 fn prepare(
     p: &[u8],
@@ -162,13 +138,10 @@ fn prepare(
     requires { ⌜ (count * width ≤ length (now table)) × (count ≤ 8192) × Blank (now index) × Blank (now numbers) × Blank (now ups) × (count < length (now ups)) ⌝ }
     ensures { λ r. ⌜ (r ≡ true → Prepared (now (p .entry)) (now (table .entry)) count (now (index .exit)) (now (numbers .exit)) (now (ups .exit)) × Roomy (now (p .entry)) (shown (now (table .entry)) count) room) × (65536 ≤ length (now (index .entry)) → 65536 ≤ length (now (numbers .entry)) → Roomy (now (p .entry)) (shown (now (table .entry)) count) room → r ≡ true) ⌝ }
 {
-    if !all_fit(p, table, count, room) {
-        return false;
-    }
     if !naming::index_ids(table, count, index) {
         return false;
     }
-    if !naming::index_numbers(p, table, count, numbers) {
+    if !naming::index_numbers(p, table, count, room, numbers) {
         return false;
     }
     naming::chains(p, table, count, index, ups);

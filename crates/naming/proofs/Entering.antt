@@ -1,5 +1,5 @@
 -- One record more in a list of records by a key, and what the list and the table say of a number. Assumes nothing.
-use mathlib.Core.Path.{_≡_, refl, sym, ap, _∙_}
+use mathlib.Core.Path.{_≡_, refl, sym, ap, _∙_, subst}
 use mathlib.Core.Bool.{cond}
 use mathlib.Core.List.{List}
 use Prim.Native.Nat.{ℕ, zero, suc, _+_, _-_, _*_, _≤_, _<_}
@@ -12,10 +12,10 @@ use lib.Seq.{set-out, getD-set-same, getD-set-other}
 use Rattle.records.specs.Fields.{elementOf}
 use Rattle.pool.specs.Reading.{Entry}
 use Rattle.naming.specs.Naming.{firstOf, numberKey}
-use Rattle.naming.specs.Lists.{entryIn, shown, kindIn, Indexed, IndexedBelow}
-use Rattle.naming.specs.Steps.{entered, numberIn}
+use Rattle.naming.specs.Lists.{entryIn, shown, kindIn, Indexed, IndexedBelow, Roomy}
+use Rattle.naming.specs.Steps.{entered, numberIn, RoomIn}
 use Rattle.naming.proofs.First.{first-other, first-kept, first-here, first-ext}
-use Rattle.naming.proofs.Shown.{shown-at}
+use Rattle.naming.proofs.Shown.{shown-long, shown-at}
 
 module _ (index : List ℕ) (key number : ℕ) where
   pub entered-new : getD index key 0 ≡ 0 → set index key number ≡ entered index key number
@@ -82,3 +82,14 @@ indexed-below-shown bound p table index n h x l =
 pub kind-in : (table : List ℕ) (number : ℕ) → (number ≡ 0 → ⊥) → getD table ((number - 1) * 4 + 2) 0 ≡ kindIn table number
 kind-in table zero h = absurd (h refl)
 kind-in table (suc i) h = let e : suc i - 1 ≡ i = omega arith in rw e
+
+-- lists have room by the table where they have by the records that it shows
+module _ (p table : List ℕ) (n room : ℕ) where
+  pub roomy-shown : ((i : ℕ) → i < n → RoomIn p table room i) → Roomy p (shown table n) room
+  roomy-shown h i l =
+      let inside : i < n = omega (arith, shown-long table n) in
+      subst (λ (e : Entry). e .kind ≡ 2 → elementOf p (e .start) .entries ≤ room) (sym (shown-at table n i inside)) (h i inside)
+
+  pub roomy-in : Roomy p (shown table n) room → (i : ℕ) → i < n → RoomIn p table room i
+  roomy-in h i l =
+      subst (λ (e : Entry). e .kind ≡ 2 → elementOf p (e .start) .entries ≤ room) (shown-at table n i l) (h i (omega (arith, shown-long table n)))

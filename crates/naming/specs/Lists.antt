@@ -3,8 +3,10 @@ use Prim.Native.Nat.{ℕ, zero, suc, _+_, _*_, _≤_, _<_}
 use mathlib.Core.Path.{_≡_}
 use mathlib.Core.Logic.{_↔_}
 use mathlib.Core.List.{List, [], _∷_, _++_}
-use lib.ListN.{getD}
+use lib.ListN.{length, getD}
+use Rattle.records.specs.Fields.{elementOf}
 use Rattle.pool.specs.Reading.{Entry, width}
+use Rattle.naming.specs.Records.{startAt, kindAt}
 use Rattle.naming.specs.Naming.{firstOf, parentOf, climb}
 
 -- the records that a working table shows: entry i, and the first n
@@ -41,3 +43,7 @@ IndexedBelow bound key n index = (x : ℕ) → x < bound → getD index x 0 ≡ 
 -- under the number of each record stands 0 exactly if its chain of parents has ended after n steps
 abbrev pub Ended : List ℕ → List Entry → ℕ → List ℕ → Type 0
 Ended p es n ups = (r : ℕ) → r ≤ n → (getD ups r 0 ≡ 0) ↔ (climb (parentOf p es) n r ≡ 0)
+
+-- every list of entries has room in lists of so many numbers
+abbrev pub Roomy : List ℕ → List Entry → ℕ → Type 0
+Roomy p es room = (i : ℕ) → i < length es → kindAt es i ≡ 2 → elementOf p (startAt es i) .entries ≤ room

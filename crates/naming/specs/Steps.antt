@@ -17,6 +17,10 @@ entered index key number = cond (eqb (getD index key 0) 0) (set index key number
 abbrev pub numberIn : List ℕ → List ℕ → ℕ → ℕ
 numberIn p table i = cond (eqb (entryIn table i .kind) 2) (elementOf p (entryIn table i .start) .number) 65536
 
+-- the list of entries of entry i of a table has room
+abbrev pub RoomIn : List ℕ → List ℕ → ℕ → ℕ → Type 0
+RoomIn p table room i = entryIn table i .kind ≡ 2 → elementOf p (entryIn table i .start) .entries ≤ room
+
 -- under each number up to n stands where m steps or more lead from it
 abbrev pub Climbs : (ℕ → ℕ) → ℕ → ℕ → List ℕ → Type 0
 Climbs f n m ups = (r : ℕ) → r ≤ n → (k : ℕ) × (m ≤ k) × (getD ups r 0 ≡ climb f k r)

@@ -7,8 +7,8 @@ ghost use lib.ListN.{length, getD};
 ghost use Rattle.pool.specs.Reading.{width};
 ghost use Rattle.naming.specs.Records.{idAt};
 ghost use Rattle.naming.specs.Naming.{numberKey, parentOf};
-ghost use Rattle.naming.specs.Lists.{shown, kindIn, Blank, Indexed, IndexedBelow, Ended};
-ghost use Rattle.naming.specs.Steps.{entered, numberIn, Climbs, Doubles};
+ghost use Rattle.naming.specs.Lists.{shown, kindIn, Blank, Indexed, IndexedBelow, Ended, Roomy};
+ghost use Rattle.naming.specs.Steps.{entered, numberIn, RoomIn, Climbs, Doubles};
 
 // Puts a record's number under a key that has none yet.
 fn enter(index: &mut [u16], key: u16, number: u16)
@@ -39,10 +39,11 @@ pub fn index_ids(table: &[u16], count: usize, index: &mut [u16]) -> bool
     true
 }
 
-// Puts the number of entry i, if it is a device element's, under its element number. Tells whether the list is long enough for that.
-fn enter_number(p: &[u8], table: &[u16], i: usize, index: &mut [u16]) -> bool
+// Puts the number of entry i, if it is a device element's, under its element number. Tells whether the list is long enough for
+// that, and so many numbers for its list of entries.
+fn enter_number(p: &[u8], table: &[u16], i: usize, room: usize, index: &mut [u16]) -> bool
     requires { ⌜ (i * width + width ≤ length (now table)) × (i < 8192) ⌝ }
-    ensures { λ r. ⌜ (r ≡ true → IndexedBelow 65536 (numberIn (now (p .entry)) (now (table .entry))) i (now (index .entry)) → IndexedBelow 65536 (numberIn (now (p .entry)) (now (table .entry))) (i + 1) (now (index .exit))) × (65536 ≤ length (now (index .entry)) → r ≡ true) ⌝ }
+    ensures { λ r. ⌜ (r ≡ true → (IndexedBelow 65536 (numberIn (now (p .entry)) (now (table .entry))) i (now (index .entry)) → IndexedBelow 65536 (numberIn (now (p .entry)) (now (table .entry))) (i + 1) (now (index .exit))) × RoomIn (now (p .entry)) (now (table .entry)) room i) × (65536 ≤ length (now (index .entry)) → RoomIn (now (p .entry)) (now (table .entry)) room i → r ≡ true) ⌝ }
 {
     if table[i * 4 + 2] != 2 {
         return true;
@@ -51,18 +52,22 @@ fn enter_number(p: &[u8], table: &[u16], i: usize, index: &mut [u16]) -> bool
     if index.len() <= element.number as usize {
         return false;
     }
+    if room < element.entries as usize {
+        return false;
+    }
     enter(index, element.number, (i + 1) as u16);
     true
 }
 
-// Lists the device elements by element number. Tells whether the list is long enough for every number.
-pub fn index_numbers(p: &[u8], table: &[u16], count: usize, index: &mut [u16]) -> bool
+// Lists the device elements by element number. Tells whether the list is long enough for every number, and so many numbers for
+// every list of entries.
+pub fn index_numbers(p: &[u8], table: &[u16], count: usize, room: usize, index: &mut [u16]) -> bool
     requires { ⌜ (count * width ≤ length (now table)) × (count ≤ 8192) × Blank (now index) ⌝ }
-    ensures { λ r. ⌜ (r ≡ true → IndexedBelow 65536 (numberKey (now (p .entry)) (shown (now (table .entry)) count)) count (now (index .exit))) × (65536 ≤ length (now (index .entry)) → r ≡ true) ⌝ }
+    ensures { λ r. ⌜ (r ≡ true → IndexedBelow 65536 (numberKey (now (p .entry)) (shown (now (table .entry)) count)) count (now (index .exit)) × Roomy (now (p .entry)) (shown (now (table .entry)) count) room) × (65536 ≤ length (now (index .entry)) → Roomy (now (p .entry)) (shown (now (table .entry)) count) room → r ≡ true) ⌝ }
 {
     let mut i: usize = 0;
     while i < count {
-        if !enter_number(p, table, i, index) {
+        if !enter_number(p, table, i, room, index) {
             return false;
         }
         i += 1;

@@ -2,13 +2,13 @@
 use mathlib.Core.Path.{_≡_, refl, sym, ap, subst, _∙_}
 use mathlib.Core.Bool.{false≢true}
 use mathlib.Core.List.{List}
-use Prim.Native.Nat.{ℕ, _+_}
+use Prim.Native.Nat.{ℕ, _+_, _≤_}
 use native.Mathlib.Omega.{arith}
-use borrow.Author.Needs.{needs}
 use Rattle.records.specs.declared.DeviceElement.{DeviceElement}
 use Rattle.naming.specs.Lists.{IndexedBelow}
 use Rattle.naming.specs.Steps.{numberIn}
 use Rattle.naming.proofs.Entering.{number-element, number-none, indexed-below-other, indexed-below-more}
+use borrow.Author.Needs.{needs}
 use Rattle.naming.proofs.enter_number.Statement.{statement}
 use Rattle.naming.proofs.enter_number.Tie as tie
 
@@ -29,7 +29,7 @@ returns c =
     let a = c .before .before .before .before .before .args in
     let p = a .p .now in
     let table = a .table .now in
-    (λ t. indexed-below-other 65536 (numberIn p table) (a .index .now) (a .i) (number-none p table (a .i) (c .if1 .taken)), λ h. refl)
+    (λ t. (indexed-below-other 65536 (numberIn p table) (a .index .now) (a .i) (number-none p table (a .i) (c .if1 .taken)), λ e. absurd (c .if1 .taken e)), λ h r. refl)
 
 mul-device-element : tie.Need-mul-device-element
 mul-device-element c = search needs
@@ -47,7 +47,14 @@ cast-if2 : tie.Need-cast-if2
 cast-if2 c = search needs
 
 returns-2 : tie.Need-returns-2
-returns-2 c = (λ t. absurd (false≢true t), λ h. absurd (omega arith))
+returns-2 c = (λ t. absurd (false≢true t), λ h r. absurd (omega arith))
+
+cast-if3 : tie.Need-cast-if3
+cast-if3 c = search needs
+
+returns-3 : tie.Need-returns-3
+returns-3 c =
+    (λ t. absurd (false≢true t), λ h r. absurd (omega (arith, c .if3 .taken, rw (← c .before .before .before .before .device-element .ensures) at (r (c .before .before .before .before .before .before .if1 .left)))))
 
 add-enter : tie.Need-add-enter
 add-enter c = search needs
@@ -61,13 +68,15 @@ enter-requires c κs = search needs
 same-length : tie.Need-same-length
 same-length c = search needs
 
-returns-3 : tie.Need-returns-3
-returns-3 c =
-    let a = c .before .before .before .before .before .before .before .before .before .before .before .before .before .args in
+returns-4 : tie.Need-returns-4
+returns-4 c =
+    let a = c .before .before .before .before .before .before .before .before .before .before .before .before .before .before .before .args in
     let p = a .p .now in
     let table = a .table .now in
-    let k : numberIn p table (a .i) ≡ c .before .before .before .before .before .before .device-element .result .number = number-element p table (a .i) (c .before .before .before .before .before .before .before .before .if1 .left) ∙ ap (λ (e : DeviceElement). e .number) (sym (c .before .before .before .before .before .before .device-element .ensures)) in
-    (λ t h. subst (λ (l : List ℕ). IndexedBelow 65536 (numberIn p table) (a .i + 1) l) (sym (c .before .before .enter .ensures)) (indexed-below-more 65536 (numberIn p table) (a .index .now) (a .i) (c .before .before .before .before .before .before .device-element .result .number) k (omega arith) (c .before .before .before .before .if2 .left) h), λ h. refl)
+    let e = c .before .before .before .before .before .before .before .before .device-element .result in
+    let k : numberIn p table (a .i) ≡ e .number = number-element p table (a .i) (c .before .before .before .before .before .before .before .before .before .before .if1 .left) ∙ ap (λ (d : DeviceElement). d .number) (sym (c .before .before .before .before .before .before .before .before .device-element .ensures)) in
+    let few : e .entries ≤ a .room = c .before .before .before .before .if3 .left in
+    (λ t. (λ h. subst (λ (l : List ℕ). IndexedBelow 65536 (numberIn p table) (a .i + 1) l) (sym (c .before .before .enter .ensures)) (indexed-below-more 65536 (numberIn p table) (a .index .now) (a .i) (e .number) k (omega arith) (c .before .before .before .before .before .before .if2 .left) h), λ s. subst (λ (d : DeviceElement). d .entries ≤ a .room) (c .before .before .before .before .before .before .before .before .device-element .ensures) few), λ h r. refl)
 
 pub enter-number-spec : {M : Type 1} → statement M
 enter-number-spec =
@@ -84,8 +93,10 @@ enter-number-spec =
     device-element-requires
     cast-if2
     returns-2
+    cast-if3
+    returns-3
     add-enter
     cast-enter
     enter-requires
     same-length
-    returns-3)
+    returns-4)
