@@ -3,3 +3,4 @@ pub mod Seen
 pub mod Walking
 pub mod Tabled
 pub mod ByKind
+pub mod Clearing

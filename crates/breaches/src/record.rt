@@ -1,4 +1,5 @@
 // The faults of one record, by its kind.
+use super::clean;
 use super::element;
 use super::fields;
 ghost use mathlib.Core.Path.{_≡_};
@@ -124,8 +125,8 @@ fn put_element(
     )
 }
 
-// Every fault of record i. The first device's number is given, 0 where there is none.
-pub fn put_record(
+// Every fault of record i, rule by rule. The first device's number is given, 0 where there is none.
+fn put_faults(
     p: &[u8],
     table: &[u16],
     count: usize,
@@ -191,4 +192,43 @@ pub fn put_record(
         );
     }
     own
+}
+
+// Every fault of record i.
+pub fn put_record(
+    p: &[u8],
+    table: &[u16],
+    count: usize,
+    index: &[u16],
+    numbers: &[u16],
+    ups: &[u16],
+    device: u16,
+    room: usize,
+    list: &mut [u16],
+    seen: &mut [u16],
+    i: usize,
+    faults: &mut [u16],
+    n: usize,
+) -> usize
+    requires { ⌜ Prepared (now p) (now table) count (now index) (now numbers) (now ups) × Roomy (now p) (shown (now table) count) room × Lent room (now list) (now seen) × (device ≡ firstOf (kindAt (shown (now table) count)) 1 count) × (i < count) × (n < 2 ^ 37) ⌝ }
+    ensures { λ r. ⌜ Puts (i + 1) (recordRows (now (p .entry)) (shown (now (table .entry)) count) i) (now (faults .entry)) n (now (faults .exit)) r × (r ≤ n + 98313) ⌝ }
+{
+    if clean::is_clean(p, table, count, index, i) {
+        return n;
+    }
+    put_faults(
+        p,
+        table,
+        count,
+        index,
+        numbers,
+        ups,
+        device,
+        room,
+        list,
+        seen,
+        i,
+        faults,
+        n,
+    )
 }
