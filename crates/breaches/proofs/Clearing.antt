@@ -1,30 +1,36 @@
 -- Rows without a breach, and what tells that a record has none. Assumes nothing.
 use mathlib.Core.Path.{_≡_, refl, sym, ap, _∙_}
-use mathlib.Core.Bool.{Bool, true, false, not, _&&_, _||_}
-use mathlib.Core.List.{List, [], _∷_, _++_, append-nil}
+use mathlib.Core.Bool.{Bool, true, false, not, _&&_, _||_, true≢false}
 use mathlib.Core.Logic.{⊎-elim}
+use mathlib.Core.List.{List, [], _∷_, _++_}
 use Prim.Native.Nat.{ℕ, zero, suc, _+_, _*_, _/_, _%_, _<_, _≤_}
+use native.Mathlib.Decide.{ℕ-discrete}
+use native.Mathlib.Nat.{eq-or-lt-of-le}
 use native.Mathlib.Omega.{arith}
+use borrow.Author.Count.{below-more}
 use borrow.Author.Tests.{eq-eqb, ne-eqb, le-ltb, le-leb}
-use lib.Dec.{eqb, ltb}
-use lib.ListN.{length, getD}
-use Rattle.records.specs.Fields.{partOf}
+use lib.Dec.{eqb}
+use lib.ListN.{length, getD, set}
+use lib.Seq.{getD-set-same, getD-set-other}
+use Rattle.records.specs.Fields.{partOf, elementOf}
 use Rattle.records.specs.declared.Span.{Span}
+use Rattle.records.specs.declared.DeviceElement.{DeviceElement}
 use Rattle.records.specs.declared.ProcessData.{ProcessData}
 use Rattle.records.specs.declared.Property.{Property}
 use Rattle.records.specs.declared.ValuePresentation.{ValuePresentation}
 use Rattle.text.specs.Examined.{soundText}
-use Rattle.faults.specs.Rows.{Row, one, upTo, inRows, AllAlike}
+use Rattle.faults.specs.Rows.{Row, upTo, inRows}
 use Rattle.faults.specs.Emission.{Puts}
 use Rattle.faults.proofs.Emission.{emits-none, emits-same}
-use Rattle.pool.specs.Reading.{width}
-use Rattle.naming.specs.Records.{idAt}
-use Rattle.naming.specs.Naming.{named, kindOf}
+use Rattle.pool.specs.Reading.{Entry, width}
+use Rattle.naming.specs.Records.{startAt, idAt}
+use Rattle.naming.specs.Naming.{named, kindOf, parentOf, climb, isData, tagOf, among}
 use Rattle.naming.specs.Lists.{shown, kindIn, Indexed}
-use Rattle.rules.specs.Table.{unsound, badScale, badOwn, badSource, ownRows, dataRows, propertyRows, valueRows, presentationRows, presentedRows, kindRows, recordRows}
-use Rattle.breaches.specs.Lists.{namedIn}
-use Rattle.breaches.specs.Clean.{Clear, AllClear}
-use Rattle.breaches.proofs.Tabled.{kinds, ids, ids-again, names, kind-named}
+use Rattle.rules.specs.Table.{unsound, badOwn, isParent, repeats, doubled, elementKey, entryNamed, fieldRows, referenceRows, listRows, elementRows, dataRows, propertyRows, valueRows, presentedRows, kindRows, recordRows}
+use Rattle.rules.proofs.Truth.{untrue, to-left, to-right}
+use Rattle.breaches.specs.Lists.{namedIn, Prepared}
+use Rattle.breaches.specs.Clean.{AllClear, Apart}
+use Rattle.breaches.proofs.Tabled.{starts, kinds, ids, ids-again, names, kind-named, numbers-again, ends-not}
 
 -- ---- such rows put nothing
 
@@ -107,3 +113,121 @@ module _ (table : List ℕ) (count : ℕ) (index : List ℕ) (listed : Indexed (
   record-clear p i h good first rows rows-are clear =
       rw (← kinds table count i h, ← ids table count i h, rows-are)
       (λ m l. good, (λ m l. sym (ids-again table count index listed (getD table (i * width + 3) 0) i) ∙ rw (eq-eqb _ (i + 1) first), clear))
+
+-- ---- a device element
+
+pub fields-clear : (p : List ℕ) (e : DeviceElement) → 1 ≤ e .«element_type» → e .«element_type» ≤ 7 → e .number ≤ 4095 → soundText (partOf p (e .designator)) ≡ true → AllClear (fieldRows p e)
+fields-clear p e low high few sound = (
+  λ m l. sound-clear p (e .designator) sound,
+  (
+    λ m l. rw (le-leb 1 (e .«element_type») low, le-leb (e .«element_type») 7 high),
+    (λ m l. le-ltb 4095 (e .number) few, tt),
+  ),
+)
+
+-- a number whose record is a parent, or is data, is not 0
+parent-some : (es : List Entry) (r : ℕ) → isParent (kindOf es r) ≡ true → eqb r 0 ≡ false
+parent-some es zero e = untrue e
+parent-some es (suc r) e = ne-eqb (suc r) 0 (λ z. omega (arith, z))
+
+data-some : (es : List Entry) (r : ℕ) → isData (kindOf es r) ≡ true → eqb r 0 ≡ false
+data-some es zero e = untrue e
+data-some es (suc r) e = ne-eqb (suc r) 0 (λ z. omega (arith, z))
+
+tagged : (p : List ℕ) (es : List Entry) (r : ℕ) → (tagOf p es r ≡ 0 → ⊥) → isData (kindOf es r) ≡ true
+unfolding tagOf
+tagged p es r n = go (isData (kindOf es r)) refl
+  where
+    go : (t : Bool) → isData (kindOf es r) ≡ t → t ≡ true
+    go true e = refl
+    go false e = absurd (n (rw e))
+
+references-clear : (es : List Entry) (parent : ℕ) (entry : ℕ → ℕ) (n : ℕ) → isParent (kindOf es parent) ≡ true
+    → ((m : ℕ) → m < n → isData (kindOf es (entry m)) ≡ true) → AllClear (referenceRows (kindOf es) parent entry n)
+references-clear es parent entry n right all = (
+  λ m l. parent-some es parent right,
+  (
+    λ m l. data-some es (entry m) (all m l),
+    (λ m l. rw right (and-false (not (eqb parent 0))), (λ m l. rw (all m l) (and-false (not (eqb (entry m) 0))), tt)),
+  ),
+)
+
+among-none : (f : ℕ → ℕ) (x n : ℕ) → ((j : ℕ) → j < n → f j ≡ x → ⊥) → among f x n ≡ false
+unfolding among
+among-none f x zero h = refl
+among-none f x (suc n) h =
+    rw (among-none f x n (λ (j : ℕ) (l : j < n). h j (omega arith)), ne-eqb (f n) x (h n (omega arith)))
+
+doubled-not : (tag : ℕ → ℕ) (n m : ℕ) → Apart tag n → m < n → doubled tag m ≡ false
+unfolding doubled
+doubled-not tag n m a l = rw (among-none tag (tag m) m (λ (j : ℕ) (b : j < m). a .apart j m b l)) (and-false (not (eqb (tag m) 0)))
+
+list-clear : (tag : ℕ → ℕ) (n : ℕ) → Apart tag n → (again endless : Bool) → again ≡ false → endless ≡ false → AllClear (listRows again endless tag n)
+list-clear tag n a again endless e f = (λ m l. e, (λ m l. f, (λ m l. doubled-not tag n m a l, tt)))
+
+pub element-clear : (p table : List ℕ) (count : ℕ) (index numbers ups : List ℕ) → Prepared p table count index numbers ups → (i : ℕ) → i < count → (e : DeviceElement)
+    → e ≡ elementOf p (getD table (i * width) 0) → e .number < 65536 → AllClear (fieldRows p e) → isParent (kindIn table (namedIn index (e .parent))) ≡ true
+    → getD numbers (e .number) 0 ≡ i + 1 → getD ups (i + 1) 0 ≡ 0
+    → Apart (λ (m : ℕ). tagOf p (shown table count) (entryNamed p (shown table count) (getD table (i * width) 0) m)) (e .entries)
+    → AllClear (elementRows p (shown table count) i (elementOf p (startAt (shown table count) i)))
+element-clear p table count index numbers ups w i h e is low own right number up apart =
+    let es = shown table count in
+    let at = getD table (i * width) 0 in
+    let again : repeats (elementKey p es) (suc (e .number)) i (length es) ≡ false = sym (numbers-again table count p numbers (w .elements) (e .number) i low) ∙ rw (eq-eqb (getD numbers (e .number) 0) (i + 1) number) in
+    let endless : not (eqb (climb (parentOf p es) (length es) (suc i)) 0) ≡ false = sym (ends-not table count p ups (w .chains) i h) ∙ rw up in
+    let parent : isParent (kindOf es (named es (e .parent))) ≡ true = sym (ap isParent (ap (kindIn table) (names table count index (w .ids) (e .parent)) ∙ kind-named table count index (w .ids) (e .parent))) ∙ right in
+    let references = referenceRows (kindOf es) (named es (e .parent)) (entryNamed p es at) (e .entries) in
+    let tag : ℕ → ℕ = λ (m : ℕ). tagOf p es (entryNamed p es at m) in
+    let list = listRows (repeats (elementKey p es) (suc (e .number)) i (length es)) (not (eqb (climb (parentOf p es) (length es) (suc i)) 0)) tag (e .entries) in
+    rw (← starts table count i h, ← is)
+    (clear-then (fieldRows p e) (references ++ list) own
+    (clear-then references list
+    (references-clear es (named es (e .parent)) (entryNamed p es at) (e .entries) parent
+    (λ (m : ℕ) (l : m < e .entries). tagged p es (entryNamed p es at m) (apart .some m l)))
+    (list-clear tag (e .entries) apart _ _ again endless)))
+
+-- ---- tags one after the other, and the places where they leave the record's number
+
+pub record Placed (tag : ℕ → ℕ) (number m : ℕ) (seen : List ℕ) : Type 0 where
+  pub apart : Apart tag m
+  pub met : (j : ℕ) → j < m → getD seen (tag j % 1024) 0 ≡ number
+
+pub placed-none : (tag : ℕ → ℕ) (number : ℕ) (seen : List ℕ) → Placed tag number 0 seen
+placed-none tag number seen =
+    record { apart = record { some = λ m l e. omega (arith, l); apart = λ j m b l e. omega (arith, l) }; met = λ j l. absurd (omega (arith, l)) }
+
+-- a tag whose place is free is a new one
+module _ (tag : ℕ → ℕ) (number m : ℕ) (seen : List ℕ) (room : 1024 ≤ length seen) (placed : Placed tag number m seen) where
+  pub placed-more : (x : ℕ) → x ≡ tag m → (x ≡ 0 → ⊥) → (getD seen (x % 1024) 0 ≡ number → ⊥) → Placed tag number (m + 1) (set seen (x % 1024) number)
+  placed-more x is some free =
+      record {
+        apart = record {
+          some = below-more _ _ (placed .apart .some) (λ (e : tag m ≡ 0). some (is ∙ e));
+          apart = λ (j k : ℕ) (b : j < k) (l : k < m + 1). ⊎-elim (λ (s : k ≡ m). new j k b s) (λ (s : k < m). placed .apart .apart j k b s) (eq-or-lt-of-le (omega arith));
+        };
+        met = λ (j : ℕ) (l : j < m + 1). ⊎-elim (λ (s : j ≡ m). here j s) (λ (s : j < m). there j s (ℕ-discrete (tag j % 1024) (x % 1024))) (eq-or-lt-of-le (omega arith));
+      }
+    where
+      inside : x % 1024 < length seen
+      inside = omega arith
+
+      new : (j k : ℕ) → j < k → k ≡ m → tag j ≡ tag k → ⊥
+      new j k b s e =
+          let same : tag j ≡ x = e ∙ ap tag s ∙ sym is in
+          free (sym (ap (λ (t : ℕ). getD seen (t % 1024) 0) same) ∙ placed .met j (omega arith))
+
+      here : (j : ℕ) → j ≡ m → getD (set seen (x % 1024) number) (tag j % 1024) 0 ≡ number
+      here j s =
+          let same : tag j ≡ x = ap tag s ∙ sym is in
+          rw same (getD-set-same seen (x % 1024) number 0 inside)
+
+      there : (j : ℕ) → j < m → Dec (tag j % 1024 ≡ x % 1024) → getD (set seen (x % 1024) number) (tag j % 1024) 0 ≡ number
+      there j s (yes e) = rw e (getD-set-same seen (x % 1024) number 0 inside)
+      there j s (no n) = getD-set-other seen (x % 1024) (tag j % 1024) number 0 n ∙ placed .met j s
+
+-- neither of two numbers is as it is asked
+pub neither : {a b x y : ℕ} → eqb a x || eqb b y ≡ false → (a ≡ x → ⊥) × (b ≡ y → ⊥)
+neither {a} {b} {x} {y} e = (
+  λ (s : a ≡ x). true≢false (sym (to-left (eqb b y) (eq-eqb a x s)) ∙ e),
+  λ (s : b ≡ y). true≢false (sym (to-right (eqb a x) (eq-eqb b y s)) ∙ e),
+)

@@ -72,6 +72,10 @@ module _ (table : List ℕ) (count : ℕ) where
     unfolding tagOf
     tag-is p r h = rw (shown-kind table count r h, ddi-is p r h)
 
+    -- the tag of what an ID names
+    pub tags : (p : List ℕ) (x : ℕ) → tagIn p table (namedIn index x) ≡ tagOf p (shown table count) (named (shown table count) x)
+    tags p x = ap (tagIn p table) (names x) ∙ tag-is p (named (shown table count) x) (within x)
+
     -- the references of a device element, by what has been looked up
     pub references-alike : (p list : List ℕ) (at x size : ℕ) → ((m : ℕ) → m < size → getD list m 0 ≡ namedIn index (entryOf p at m))
         → AllAlike (referenceRows (kindIn table) (namedIn index x) (λ (m : ℕ). getD list m 0) size)
@@ -109,7 +113,7 @@ module _ (table : List ℕ) (count : ℕ) where
     )
       where
         same : (m : ℕ) → m < size → tagIn p table (getD list m 0) ≡ tagOf p (shown table count) (entryNamed p (shown table count) at m)
-        same m l = ap (tagIn p table) (h m l ∙ names (entryOf p at m)) ∙ tag-is p (named (shown table count) (entryOf p at m)) (within (entryOf p at m))
+        same m l = ap (tagIn p table) (h m l) ∙ tags p (entryOf p at m)
 
   -- a device element is not the first with its number
   pub numbers-again : (p numbers : List ℕ) → IndexedBelow 65536 (numberKey p (shown table count)) count numbers → (x i : ℕ) → x < 65536

@@ -48,4 +48,5 @@ pub record Prepared (p table : List ℕ) (count : ℕ) (index numbers ups : List
 pub record Lent (room : ℕ) (list seen : List ℕ) : Type 0 where
   pub entries : room ≤ length list
   pub ddis : room ≤ length seen
+  pub places : 1024 ≤ length seen
   pub few : room ≤ 32768

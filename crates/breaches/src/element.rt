@@ -13,7 +13,7 @@ ghost use Rattle.naming.specs.Lists.{kindIn};
 ghost use Rattle.rules.specs.Table.{isParent, wrongKind, doubled, referenceRows, listRows};
 ghost use Rattle.breaches.specs.Lists.{namedIn, ddiIn, tagIn, Holds};
 
-fn is_parent(kind: u16) -> bool
+pub(crate) fn is_parent(kind: u16) -> bool
     ensures { λ r. ⌜ r ≡ isParent kind ⌝ }
 {
     (kind == 1) | (kind == 2)
@@ -132,7 +132,7 @@ fn start_at(table: &[u16], i: usize) -> usize
 }
 
 // 0 where a number stands for no process data or property, else its DDI and 1.
-fn tag_at(p: &[u8], table: &[u16], number: u16) -> usize
+pub(crate) fn tag_at(p: &[u8], table: &[u16], number: u16) -> usize
     ensures { λ r. ⌜ (r ≡ tagIn (now (p .entry)) (now (table .entry)) number) × (r ≤ 65536) ⌝ }
 {
     if is_data(naming::kind_at(table, number)) {

@@ -213,7 +213,7 @@ pub fn put_record(
     requires { ⌜ Prepared (now p) (now table) count (now index) (now numbers) (now ups) × Roomy (now p) (shown (now table) count) room × Lent room (now list) (now seen) × (device ≡ firstOf (kindAt (shown (now table) count)) 1 count) × (i < count) × (n < 2 ^ 37) ⌝ }
     ensures { λ r. ⌜ Puts (i + 1) (recordRows (now (p .entry)) (shown (now (table .entry)) count) i) (now (faults .entry)) n (now (faults .exit)) r × (r ≤ n + 98313) ⌝ }
 {
-    if clean::is_clean(p, table, count, index, i) {
+    if clean::is_clean(p, table, count, index, numbers, ups, seen, i) {
         return n;
     }
     put_faults(

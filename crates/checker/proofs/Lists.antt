@@ -12,9 +12,10 @@ blank zero (suc x) = refl
 blank (suc n) zero = refl
 blank (suc n) (suc x) = blank n x
 
-pub lent : (n : ℕ) → n ≤ 32768 → Lent n (replicate n 0) (replicate n 0)
-lent n h =
-    record { entries = omega (arith, length-replicate {A = ℕ} n 0); ddis = omega (arith, length-replicate {A = ℕ} n 0); few = h }
+pub lent : (n m : ℕ) → n ≤ 32768 → n ≤ m → 1024 ≤ m → Lent n (replicate n 0) (replicate m 0)
+lent n m h l k =
+    let long = length-replicate {A = ℕ} m 0 in
+    record { entries = omega (arith, length-replicate {A = ℕ} n 0); ddis = omega (arith, long); places = omega (arith, long); few = h }
 
 pub long : (n m : ℕ) → m ≤ n → m ≤ length {A = ℕ} (replicate n 0)
 long n m h = omega (arith, length-replicate {A = ℕ} n 0)

@@ -43,7 +43,7 @@ module _ (p table : List ℕ) (count room : ℕ) where
       → Putting p table count room list₀ seen₀ faults₀ n₀ list′ seen′ faults′ n′ (i + 1)
   putting-more {faults = faults} {n = n} {i = i} h w list′ seen′ faults′ n′ a b q m =
       record {
-        lent = record { entries = omega (arith, a, w .lent .entries); ddis = omega (arith, b, w .lent .ddis); few = w .lent .few };
+        lent = record { entries = omega (arith, a, w .lent .entries); ddis = omega (arith, b, w .lent .ddis); places = omega (arith, b, w .lent .places); few = w .lent .few };
         list-long = a ∙ w .list-long;
         seen-long = b ∙ w .seen-long;
         faults-long = puts-length q ∙ w .faults-long;

@@ -163,7 +163,7 @@ fn try_short(p: &[u8], table: &[u16], count: usize, faults: &mut [u16]) -> Tried
         return Tried::Short;
     }
     let mut list = [0u16; 128];
-    let mut seen = [0u16; 128];
+    let mut seen = [0u16; 1024];
     Tried::Counted(put_all(
         p,
         table,

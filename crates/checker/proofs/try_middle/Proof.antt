@@ -39,7 +39,7 @@ slice-aggregate-put-all-5 c = search needs
 put-all-requires : tie.Need-put-all-requires
 put-all-requires c κs =
     let ready = c .before .before .before .before .before .before .before .before .before .before .prepare .ensures .0 (not-false (c .before .before .before .before .before .before .before .before .before .before .prepare .result) (c .before .before .before .before .before .before .if1 .left)) in
-    (ready .0, ready .1, lent 1024 (omega arith))
+    (ready .0, ready .1, lent 1024 1024 (omega arith) (omega arith) (omega arith))
 
 same-length : tie.Need-same-length
 same-length c = search needs

@@ -4,8 +4,9 @@ use Prim.Native.Nat.{_+_, _*_}
 use native.Mathlib.Omega.{arith}
 use lib.ListN.{getD}
 use Rattle.records.specs.Fields.{presentationOf}
+use Rattle.naming.specs.Lists.{shown}
 use Rattle.rules.proofs.Truth.{untrue}
-use Rattle.breaches.proofs.ByKind.{data-rows, property-rows, value-rows}
+use Rattle.breaches.proofs.ByKind.{as-element, data-rows, property-rows, value-rows}
 use Rattle.breaches.proofs.Clearing.{record-clear}
 use borrow.Author.Needs.{needs}
 use Rattle.breaches.proofs.clean.is_clean.Statement.{statement}
@@ -51,7 +52,7 @@ returns : tie.Need-returns
 returns c e = untrue e
 
 cast-number-at : tie.Need-cast-number-at
-cast-number-at c = omega (arith, c .before .before .shared-slice-known6 .given (c .before .before .before .before .before .before .before .before .args .i * 4 + 3))
+cast-number-at c = omega (arith, c .before .before .shared-slice-known8 .given (c .before .before .before .before .before .before .before .before .before .before .before .args .i * 4 + 3))
 
 number-at-requires : tie.Need-number-at-requires
 number-at-requires c κs = search needs
@@ -70,27 +71,38 @@ is-clean-data-requires c κs = search needs
 
 returns-3 : tie.Need-returns-3
 returns-3 c e =
-    let a = c .before .before .before .before .before .before .before .before .before .before .before .before .args in
-    record-clear (a .table .now) (a .count) (a .index .now) (c .before .before .before .before .before .before .before .before .before .before .before .before .pre .2) (a .p .now) (a .i) (c .before .before .before .before .before .before .before .before .before .before .before .before .pre .3) (sym (c .before .before .before .before .before .is-bad-id .ensures) ∙ c .before .before .before .before .if1 .left) (sym (c .before .before .before .number-at .ensures) ∙ c .before .before .if2 .left) _ (data-rows (a .p .now) (a .table .now) (a .count) (a .i) (c .before .before .before .before .before .before .before .before .before .before .before .before .pre .3) _ (c .before .if3 .taken)) (c .is-clean-data .ensures e)
+    let a = c .before .before .before .before .before .before .before .before .before .before .before .before .before .before .before .args in
+    record-clear (a .table .now) (a .count) (a .index .now) (c .before .before .before .before .before .before .before .before .before .before .before .before .before .before .before .pre .0 .ids) (a .p .now) (a .i) (c .before .before .before .before .before .before .before .before .before .before .before .before .before .before .before .pre .2) (sym (c .before .before .before .before .before .is-bad-id .ensures) ∙ c .before .before .before .before .if1 .left) (sym (c .before .before .before .number-at .ensures) ∙ c .before .before .if2 .left) _ (data-rows (a .p .now) (a .table .now) (a .count) (a .i) (c .before .before .before .before .before .before .before .before .before .before .before .before .before .before .before .pre .2) _ (c .before .if3 .taken)) (c .is-clean-data .ensures e)
 
 is-clean-property-requires : tie.Need-is-clean-property-requires
 is-clean-property-requires c κs = search needs
 
 returns-4 : tie.Need-returns-4
 returns-4 c e =
-    let a = c .before .before .before .before .before .before .before .before .before .before .before .before .before .args in
-    record-clear (a .table .now) (a .count) (a .index .now) (c .before .before .before .before .before .before .before .before .before .before .before .before .before .pre .2) (a .p .now) (a .i) (c .before .before .before .before .before .before .before .before .before .before .before .before .before .pre .3) (sym (c .before .before .before .before .before .before .is-bad-id .ensures) ∙ c .before .before .before .before .before .if1 .left) (sym (c .before .before .before .before .number-at .ensures) ∙ c .before .before .before .if2 .left) _ (property-rows (a .p .now) (a .table .now) (a .count) (a .i) (c .before .before .before .before .before .before .before .before .before .before .before .before .before .pre .3) _ (c .before .if4 .taken)) (c .is-clean-property .ensures e)
+    let a = c .before .before .before .before .before .before .before .before .before .before .before .before .before .before .before .before .args in
+    record-clear (a .table .now) (a .count) (a .index .now) (c .before .before .before .before .before .before .before .before .before .before .before .before .before .before .before .before .pre .0 .ids) (a .p .now) (a .i) (c .before .before .before .before .before .before .before .before .before .before .before .before .before .before .before .before .pre .2) (sym (c .before .before .before .before .before .before .is-bad-id .ensures) ∙ c .before .before .before .before .before .if1 .left) (sym (c .before .before .before .before .number-at .ensures) ∙ c .before .before .before .if2 .left) _ (property-rows (a .p .now) (a .table .now) (a .count) (a .i) (c .before .before .before .before .before .before .before .before .before .before .before .before .before .before .before .before .pre .2) _ (c .before .if4 .taken)) (c .is-clean-property .ensures e)
+
+is-clean-element-requires : tie.Need-is-clean-element-requires
+is-clean-element-requires c κs = search needs
+
+same-length : tie.Need-same-length
+same-length c = search needs
+
+returns-5 : tie.Need-returns-5
+returns-5 c e =
+    let a = c .before .before .before .before .before .before .before .before .before .before .before .before .before .before .before .before .before .before .before .before .args in
+    record-clear (a .table .now) (a .count) (a .index .now) (c .before .before .before .before .before .before .before .before .before .before .before .before .before .before .before .before .before .before .before .before .pre .0 .ids) (a .p .now) (a .i) (c .before .before .before .before .before .before .before .before .before .before .before .before .before .before .before .before .before .before .before .before .pre .2) (sym (c .before .before .before .before .before .before .before .before .before .before .is-bad-id .ensures) ∙ c .before .before .before .before .before .before .before .before .before .if1 .left) (sym (c .before .before .before .before .before .before .before .before .number-at .ensures) ∙ c .before .before .before .before .before .before .before .if2 .left) _ (as-element (a .p .now) (shown (a .table .now) (a .count)) (a .i) _ (c .before .before .before .before .if5 .taken)) (c .before .before .is-clean-element .ensures e)
 
 is-clean-value-requires : tie.Need-is-clean-value-requires
 is-clean-value-requires c κs = search needs
 
-returns-5 : tie.Need-returns-5
-returns-5 c e =
-    let a = c .before .before .before .before .before .before .before .before .before .before .before .before .before .before .args in
-    record-clear (a .table .now) (a .count) (a .index .now) (c .before .before .before .before .before .before .before .before .before .before .before .before .before .before .pre .2) (a .p .now) (a .i) (c .before .before .before .before .before .before .before .before .before .before .before .before .before .before .pre .3) (sym (c .before .before .before .before .before .before .before .is-bad-id .ensures) ∙ c .before .before .before .before .before .before .if1 .left) (sym (c .before .before .before .before .before .number-at .ensures) ∙ c .before .before .before .before .if2 .left) _ (value-rows (a .p .now) (a .table .now) (a .count) (a .i) (c .before .before .before .before .before .before .before .before .before .before .before .before .before .before .pre .3) _ (c .before .if5 .taken) (presentationOf (a .p .now) (getD (a .table .now) (a .i * 4) 0)) refl) (c .is-clean-value .ensures e)
-
 returns-6 : tie.Need-returns-6
-returns-6 c e = untrue e
+returns-6 c e =
+    let a = c .before .before .before .before .before .before .before .before .before .before .before .before .before .before .before .before .before .before .args in
+    record-clear (a .table .now) (a .count) (a .index .now) (c .before .before .before .before .before .before .before .before .before .before .before .before .before .before .before .before .before .before .pre .0 .ids) (a .p .now) (a .i) (c .before .before .before .before .before .before .before .before .before .before .before .before .before .before .before .before .before .before .pre .2) (sym (c .before .before .before .before .before .before .before .before .is-bad-id .ensures) ∙ c .before .before .before .before .before .before .before .if1 .left) (sym (c .before .before .before .before .before .before .number-at .ensures) ∙ c .before .before .before .before .before .if2 .left) _ (value-rows (a .p .now) (a .table .now) (a .count) (a .i) (c .before .before .before .before .before .before .before .before .before .before .before .before .before .before .before .before .before .before .pre .2) _ (c .before .if6 .taken) (presentationOf (a .p .now) (getD (a .table .now) (a .i * 4) 0)) refl) (c .is-clean-value .ensures e)
+
+returns-7 : tie.Need-returns-7
+returns-7 c e = untrue e
 
 pub is-clean-spec : {M : Type 1} → statement M
 is-clean-spec =
@@ -118,6 +130,9 @@ is-clean-spec =
     returns-3
     is-clean-property-requires
     returns-4
-    is-clean-value-requires
+    is-clean-element-requires
+    same-length
     returns-5
-    returns-6)
+    is-clean-value-requires
+    returns-6
+    returns-7)
