@@ -1,0 +1,35 @@
+-- The displayed value, and its answer in the numbers of document 01. Definitions only.
+use Prim.Native.Nat.{ℕ}
+use mathlib.Core.Bool.{Bool, cond, not, _&&_}
+use lib.Dec.{leb}
+use lib.IntN.{ℤ, _+ℤ_}
+use lib.Ieee.{Float, binary32, binary64, isNan, toBits, ofBits, ofInt, mul}
+use Rattle.presentation.specs.Rounding.{ProductBits}
+use Rattle.presentation.specs.declared.Presentation.{Presentation}
+use Rattle.presentation.specs.declared.Displayed.{Displayed}
+use Rattle.presentation.specs.declared.Displayed.the-variants.{Value, Refused}
+
+-- the scale's bits, as a number, lie between the two ends; those of every NaN lie outside
+unfoldable pub inRange : Float → Bool
+inRange x = not (isNan x) && (leb 0x322BCC77 (toBits binary32 x) && leb (toBits binary32 x) 0x4CBEBC20)
+
+-- the product of the sum and the scale, which one format holds exactly, in f64
+unfoldable pub displayedOf : ℤ → Presentation → Displayed
+displayedOf v p =
+    cond (inRange (p .scale) && leb (p .decimals) 7)
+    (Value (mul binary64 (ofInt binary64 (v +ℤ p .offset)) (p .scale)))
+    Refused
+
+-- a value shown has the bits of the f64 nearest to the exact product
+abbrev pub RoundedOnce : ℤ → Presentation → Displayed → Type 0
+RoundedOnce v p (Value x) = ProductBits (v +ℤ p .offset) (toBits binary32 (p .scale)) (toBits binary64 x)
+RoundedOnce v p Refused = Unit
+
+-- number 0 and the value, or 50 and the f64 whose bits are 0
+pub record Answer : Type 0 where
+  pub number : ℕ
+  pub value : Float
+
+abbrev pub answerOf : Displayed → Answer
+answerOf (Value x) = record { number = 0; value = x }
+answerOf Refused = record { number = 50; value = ofBits binary64 0 }

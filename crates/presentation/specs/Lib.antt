@@ -1,0 +1,3 @@
+-- What the contracts of `presentation` cite.
+pub mod Rounding
+pub mod Display
