@@ -1,3 +1,4 @@
 -- What the contracts of `terminal` cite.
 pub mod Numbers
 pub mod Sessions
+pub mod Display

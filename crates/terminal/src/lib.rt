@@ -1,6 +1,7 @@
 // The C interface: numbers and lent memory. A refusal is its number; what goes with it is put into a lent number.
 use device::DeviceLabels;
 
+pub mod display;
 pub mod sessions;
 
 ghost use mathlib.Core.Path.{_≡_};
