@@ -13,7 +13,7 @@ use Rattle.presentation.specs.declared.Displayed.the-variants.{Value, Re
 unfoldable pub inRange : Float → Bool
 inRange x = not (isNan x) && (leb 0x322BCC77 (toBits binary32 x) && leb (toBits binary32 x) 0x4CBEBC20)
 
--- the product of the sum and the scale, which one format holds exactly, in f64
+-- the product in f64 of the sum and the scale, both of which an f64 holds exactly
 unfoldable pub displayedOf : ℤ → Presentation → Displayed
 displayedOf v p =
     cond (inRange (p .scale) && leb (p .decimals) 7)

@@ -15,8 +15,8 @@ pub enum Displayed {
     Refused,
 }
 
-// The scale is judged on its bits. A NaN alone differs from itself: it is refused before its bits are asked for, which it does
-// not have in a fixed form.
+// The scale is judged on its bits. A NaN, which alone differs from itself, goes first: the logic has no bits for it, and none of
+// its patterns is within the range.
 fn is_in_range(scale: f32) -> bool
     ensures { λ r. ⌜ r ≡ inRange scale ⌝ }
 {
