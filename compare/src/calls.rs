@@ -93,7 +93,7 @@ pub fn compare<Answer: PartialEq + Debug>(
 }
 
 /// Entries that no call writes by chance and that all differ.
-fn untouched(entries: usize) -> Vec<Record> {
+pub fn untouched(entries: usize) -> Vec<Record> {
     let entry = |index: usize| Record {
         start: noise(3 * index),
         length: noise(3 * index + 1),
@@ -113,7 +113,7 @@ fn untouched_faults(count: usize) -> Vec<Fault> {
     (0..count).map(fault).collect()
 }
 
-fn lent_table(entries: &[Record], words: usize) -> Lent {
+pub fn lent_table(entries: &[Record], words: usize) -> Lent {
     Lent::new(entries.iter().map(library::words_of), words)
 }
 

@@ -41,7 +41,7 @@ pub fn inputs() -> io::Result<Vec<Input>> {
 }
 
 /// Pool P of the worked lines.
-fn pool_p() -> Vec<u8> {
+pub fn pool_p() -> Vec<u8> {
     let mut pool = b"DVC\0\0".to_vec();
     pool.extend([0; 11]);
     pool.extend([1; 7]);
@@ -51,7 +51,7 @@ fn pool_p() -> Vec<u8> {
 }
 
 /// Pool Q of the worked lines.
-fn pool_q() -> Vec<u8> {
+pub fn pool_q() -> Vec<u8> {
     let mut pool = pool_p();
     pool.extend(*b"DET\x02\0\x04\0\x01\0\x01\0\x01\0\x03\0");
     pool.extend(*b"DPD\x03\0\x8D\0\x01\x09\0\xFF\xFF");

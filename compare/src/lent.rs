@@ -51,8 +51,7 @@ pub struct LentPool {
 
 impl LentPool {
     pub fn new(pool: &[u8]) -> Self {
-        let guard: Vec<u8> = (0..GUARD).map(|index| noise(index) as u8).collect();
-        let memory = [&guard, pool, &guard].concat();
+        let memory = guarded(pool);
         LentPool {
             before: memory.clone(),
             memory,
@@ -67,6 +66,46 @@ impl LentPool {
     pub fn is_changed(&self) -> bool {
         self.memory != self.before
     }
+}
+
+/// An area of bytes, which calls may change.
+pub struct LentArea {
+    memory: Vec<u8>,
+}
+
+impl LentArea {
+    pub fn new(bytes: &[u8]) -> Self {
+        LentArea {
+            memory: guarded(bytes),
+        }
+    }
+
+    /// The area without its guards.
+    pub fn bytes(&self) -> &[u8] {
+        &self.memory[GUARD..self.memory.len() - GUARD]
+    }
+
+    pub fn bytes_mut(&mut self) -> &mut [u8] {
+        let end = self.memory.len() - GUARD;
+        &mut self.memory[GUARD..end]
+    }
+
+    /// Says where two areas of one length part, guards included.
+    pub fn parting(&self, name: &str, other: &LentArea) -> Option<String> {
+        if self.memory == other.memory {
+            return None;
+        }
+        let mut pairs = self.memory.iter().zip(&other.memory);
+        let at = pairs.position(|(ours, theirs)| ours != theirs)?;
+        let place = at as isize - GUARD as isize;
+        let (ours, theirs) = (self.memory[at], other.memory[at]);
+        Some(format!("byte {place} of {name} is {ours} against {theirs}"))
+    }
+}
+
+fn guarded(bytes: &[u8]) -> Vec<u8> {
+    let guard: Vec<u8> = (0..GUARD).map(|index| noise(index) as u8).collect();
+    [&guard, bytes, &guard].concat()
 }
 
 /// A number that no call writes by chance. Neighbours differ.
@@ -97,6 +136,20 @@ mod tests {
             let place = at as isize - GUARD as isize;
             let seen = changed.parting("list", &list()).unwrap();
             assert!(seen.starts_with(&format!("word {place} of list is ")));
+        }
+    }
+
+    #[test]
+    fn a_changed_area_is_seen_wherever_it_is() {
+        let area = LentArea::new(b"DVC");
+        assert_eq!(area.bytes(), b"DVC");
+        assert_eq!(area.parting("area", &LentArea::new(b"DVC")), None);
+        for at in 0..area.memory.len() {
+            let mut changed = LentArea::new(b"DVC");
+            changed.memory[at] ^= 1;
+            let place = at as isize - GUARD as isize;
+            let seen = changed.parting("area", &area).unwrap();
+            assert!(seen.starts_with(&format!("byte {place} of area is ")));
         }
     }
 

@@ -19,6 +19,7 @@ mod queries;
 mod random;
 mod realistic;
 mod run;
+mod sessions;
 mod shape;
 mod tally;
 mod texts;
@@ -31,7 +32,7 @@ use std::env;
 use std::process::ExitCode;
 use std::str::FromStr;
 
-const USAGE: &str = "usage: compare run --lister PATH [--seed N] [--pools N] [--long]
+const USAGE: &str = "usage: compare run --lister PATH [--seed N] [--pools N] [--lists N] [--long]
        compare bench";
 
 fn main() -> ExitCode {
@@ -62,26 +63,28 @@ fn run(arguments: impl Iterator<Item = String>) -> Result<bool, String> {
 }
 
 fn parse(mut arguments: impl Iterator<Item = String>) -> Result<Options, String> {
-    let (mut lister, mut seed, mut pools, mut long) = (None, 1, None, false);
+    let (mut lister, mut seed, mut pools, mut lists, mut long) = (None, 1, None, None, false);
     while let Some(argument) = arguments.next() {
         match argument.as_str() {
             "--lister" => lister = Some(value(arguments.next())?),
             "--seed" => seed = value(arguments.next())?,
             "--pools" => pools = Some(value(arguments.next())?),
+            "--lists" => lists = Some(value(arguments.next())?),
             "--long" => long = true,
             _ => return Err(USAGE.to_owned()),
         }
     }
-    let (usual_pools, listed) = if long {
-        (1_000_000, 50_000)
+    let (usual_pools, listed, usual_lists) = if long {
+        (1_000_000, 50_000, 1_000_000)
     } else {
-        (50_000, 3_000)
+        (50_000, 3_000, 60_000)
     };
     Ok(Options {
         lister: lister.ok_or(USAGE)?,
         seed,
         pools: pools.unwrap_or(usual_pools),
         listed,
+        lists: lists.unwrap_or(usual_lists),
         long,
     })
 }

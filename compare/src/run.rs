@@ -8,6 +8,7 @@ use crate::input::{Input, Known};
 use crate::lent::LentPool;
 use crate::lister::Lister;
 use crate::queries::queries;
+use crate::sessions;
 use crate::tally::Tallies;
 use crate::texts::{self, Report};
 use crate::verdict::{Effort, Verdict};
@@ -31,6 +32,8 @@ pub struct Options {
     pub pools: u64,
     /// How many of them are listed too.
     pub listed: u64,
+    /// Seeded lists of session calls.
+    pub lists: u64,
     pub long: bool,
 }
 
@@ -47,7 +50,8 @@ pub fn run(options: Options) -> io::Result<bool> {
         run.compare(&input);
     }
     let texts = texts::compare(options.seed, options.pools);
-    Ok(run.report(&texts))
+    let sessions = sessions::compare(options.seed, options.lists, options.long);
+    Ok(run.report(&texts, &sessions))
 }
 
 struct Run {
@@ -171,19 +175,25 @@ impl Run {
         }
     }
 
-    fn report(&self, texts: &Report) -> bool {
+    fn report(&self, texts: &Report, sessions: &sessions::Report) -> bool {
         self.tallies.print();
         self.census.print();
         println!("texts: {} compared, {} sound", texts.compared, texts.sound);
         if let Some(text) = &texts.first {
             println!("first text that differs: {}", hex(text));
         }
-        let unseen = [self.tallies.unseen(), self.census.unseen()].concat();
+        sessions.print();
+        let unseen = [
+            self.tallies.unseen(),
+            self.census.unseen(),
+            sessions.unseen(),
+        ]
+        .concat();
         for what in &unseen {
             println!("compare: {what} was never seen");
         }
-        let inputs = self.tallies.inputs() + texts.compared;
-        let differences = self.differences + texts.differences;
+        let inputs = self.tallies.inputs() + texts.compared + sessions.lists + sessions.singles;
+        let differences = self.differences + texts.differences + sessions.differences;
         println!("compare: {inputs} inputs, {differences} differences");
         differences == 0 && unseen.is_empty()
     }

@@ -2,6 +2,7 @@
 //! compared with what this one answers. It is written from the rules alone
 //! and shares no code with the library.
 
+mod book;
 mod chains;
 mod faults;
 mod fields;
@@ -10,11 +11,14 @@ mod numbers;
 mod pool;
 mod queries;
 mod rules;
+mod session;
 mod texts;
 
+pub use book::{Book, Entry};
 pub use faults::Fault;
 pub use lister::list;
 pub use pool::{read_pool, Kind, Record, Refusal, MAX_POOL_BYTES, MAX_RECORDS};
 pub use queries::{labels, text, Labels};
 pub use rules::check;
+pub use session::{Answer, Session, Stage, Step};
 pub use texts::text_is_sound;

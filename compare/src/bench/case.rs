@@ -48,6 +48,10 @@ impl Case {
         }
     }
 
+    pub fn records(&self) -> usize {
+        self.records
+    }
+
     /// Has both sides do the work once and compares all of it.
     pub fn compare(&self, work: Work) -> Result<(), String> {
         let pool = LentPool::new(&self.pool);

@@ -3,6 +3,7 @@
 mod case;
 mod extremes;
 mod queries;
+mod sessions;
 mod sound;
 mod texts;
 mod times;
@@ -16,7 +17,9 @@ pub fn bench() -> bool {
     let outcome = sound::bench("reading", Work::Read, 101)
         .and_then(|()| sound::bench("check", Work::Check, 31))
         .and_then(|()| extremes::bench());
-    let outcome = outcome.and_then(|()| queries::bench());
+    let outcome = outcome
+        .and_then(|()| queries::bench())
+        .and_then(|()| sessions::bench());
     if let Err(difference) = &outcome {
         println!("bench: the sides do not agree about {difference}");
     }

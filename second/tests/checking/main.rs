@@ -1,4 +1,4 @@
-//! Tests of checking, texts and labels through the public functions.
+//! Tests of checking, texts, labels and sessions through the public functions.
 
 mod buffers;
 mod chains;
@@ -9,6 +9,8 @@ mod pools;
 mod queries;
 mod ranges;
 mod references;
+mod session_lists;
+mod sessions;
 mod utf8;
 mod vectors;
 mod whole;

@@ -1,0 +1,114 @@
+//! One session call, by each side.
+
+use super::library::{Step, Value};
+use crate::calls::{lent_table, untouched};
+use crate::lent::{Lent, LentArea, LentPool};
+use crate::library::ENTRY_WORDS;
+use second::{Book, Entry};
+use std::fmt;
+
+#[derive(Clone)]
+pub enum Call {
+    Offer(usize),
+    Transfer(Vec<u8>),
+    /// With a table of so many words.
+    Activate(usize),
+    Deactivate,
+    Delete,
+    Lost,
+}
+
+/// The areas of one side.
+pub struct Areas {
+    pub staging: LentArea,
+    pub kept: LentArea,
+}
+
+impl Call {
+    /// Makes the library's call, and gives the table it leaves.
+    pub fn by_library(&self, value: Value, areas: &mut Areas) -> Result<(Step, Lent), String> {
+        let Areas { staging, kept } = areas;
+        let mut table = Lent::default();
+        let step = match self {
+            Call::Offer(size) => value.offer(*size, staging.bytes(), kept.bytes()),
+            Call::Transfer(piece) => {
+                let piece = LentPool::new(piece);
+                let step = value.transfer(piece.bytes(), staging.bytes_mut());
+                if piece.is_changed() {
+                    return Err("the piece was changed".into());
+                }
+                step
+            }
+            Call::Activate(words) => {
+                table = lent_table(&untouched(words / ENTRY_WORDS), *words);
+                value.activate(staging.bytes(), kept.bytes_mut(), table.words())
+            }
+            Call::Deactivate => value.deactivate(),
+            Call::Delete => value.delete(),
+            Call::Lost => value.lost(),
+        };
+        Ok((step, table))
+    }
+
+    /// Makes the second implementation's call, which gets as many entries as
+    /// fit into the words, and gives the table it leaves.
+    pub fn by_second(&self, value: Value, areas: &mut Areas) -> (Step, Lent) {
+        let mut table = untouched(self.table_words() / ENTRY_WORDS);
+        let step = match value.session() {
+            None => Step::impossible(value),
+            Some(session) => {
+                let Areas { staging, kept } = areas;
+                Step::of(match self {
+                    Call::Offer(size) => session.offer(*size, staging.bytes(), kept.bytes()),
+                    Call::Transfer(piece) => session.transfer(piece, staging.bytes_mut()),
+                    Call::Activate(_) => {
+                        session.activate(staging.bytes(), kept.bytes_mut(), &mut table)
+                    }
+                    Call::Deactivate => session.deactivate(),
+                    Call::Delete => session.delete(),
+                    Call::Lost => session.lost(),
+                })
+            }
+        };
+        let table = match self {
+            Call::Activate(words) => lent_table(&table, *words),
+            _ => Lent::default(),
+        };
+        (step, table)
+    }
+
+    /// Enters the call into the book, which knows of the areas their lengths.
+    pub fn by_book(&self, book: &mut Book, staging: usize, kept: usize) -> Entry {
+        match self {
+            Call::Offer(size) => book.offer(*size, staging, kept),
+            Call::Transfer(piece) => book.transfer(piece, staging),
+            Call::Activate(words) => book.activate(staging, kept, words / ENTRY_WORDS),
+            Call::Deactivate => book.deactivate(),
+            Call::Delete => book.delete(),
+            Call::Lost => book.lost(),
+        }
+    }
+
+    fn table_words(&self) -> usize {
+        match self {
+            Call::Activate(words) => *words,
+            _ => 0,
+        }
+    }
+}
+
+impl fmt::Display for Call {
+    fn fmt(&self, f: &mut fmt::Formatter) -> fmt::Result {
+        match self {
+            Call::Offer(size) => write!(f, "offer of {size}"),
+            Call::Transfer(piece) => {
+                write!(f, "transfer of {} bytes:", piece.len())?;
+                piece.iter().try_for_each(|byte| write!(f, " {byte:02X}"))
+            }
+            Call::Activate(words) => write!(f, "activate, table of {words} words"),
+            Call::Deactivate => write!(f, "deactivate"),
+            Call::Delete => write!(f, "delete"),
+            Call::Lost => write!(f, "lost connection"),
+        }
+    }
+}
