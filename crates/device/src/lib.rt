@@ -112,8 +112,8 @@ pub fn find_text(p: &[u8], table: &mut [u16], id: u16) -> Place
     }
 }
 
-// The text of the first record with an ID, as a part of the caller's pool. An empty text and a refusal differ by the
-// number that goes out beside it.
+// The text of the first record with an ID, as a slice of the pool that was lent. The number tells a refusal from a text
+// without bytes.
 pub fn text<'a>(p: &'a [u8], table: &mut [u16], id: u16, number: &mut u32) -> &'a [u8]
     ensures { λ r. ⌜ (now r ≡ textOf (now (p .entry)) (roomOf (now (table .entry))) id) × (now (number .exit) ≡ textNumber (now (p .entry)) (roomOf (now (table .entry))) id) × (now (table .exit) ≡ tableAfter (now (p .entry)) (now (table .entry))) ⌝ }
 {

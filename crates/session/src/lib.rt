@@ -134,7 +134,7 @@ pub fn offer(s: Session, size: usize, staging: &[u8], kept: &[u8]) -> Step
     }
 }
 
-// Takes a piece into the rest of staging that starts at received.
+// Takes a piece: it is copied behind what has been received.
 pub fn transfer(s: Session, piece: &[u8], staging: &mut [u8]) -> Step
     ensures { λ r. ⌜ (stepOf r ≡ transferOf s (now (piece .entry)) (length (now (staging .entry)))) × (now (staging .exit) ≡ stagingAfter s (now (piece .entry)) (now (staging .entry))) ⌝ }
 {
