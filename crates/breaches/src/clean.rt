@@ -85,7 +85,6 @@ fn is_clean_list(
 fn is_clean_alone(
     p: &[u8],
     table: &[u16],
-    count: usize,
     index: &[u16],
     numbers: &[u16],
     ups: &[u16],
@@ -124,7 +123,7 @@ fn is_clean_element(
     let at = table[i * 4];
     let e = records::view::device_element(p, at);
     let size = e.entries as usize;
-    if !is_clean_alone(p, table, count, index, numbers, ups, i, e) {
+    if !is_clean_alone(p, table, index, numbers, ups, i, e) {
         return false;
     }
     is_clean_list(p, table, count, index, at, size, (i + 1) as u16, seen)

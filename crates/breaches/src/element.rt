@@ -1,4 +1,5 @@
 // The rules that look from a device element at what it refers to: its parent, and its list of entries.
+use super::record;
 ghost use mathlib.Core.Path.{_≡_};
 ghost use mathlib.Core.Bool.{true, false};
 ghost use mathlib.Core.List.{[], _∷_};
@@ -119,16 +120,7 @@ fn ddi_at(p: &[u8], table: &[u16], number: u16) -> u16
         return 0;
     }
     let i = (number as usize - 1) * 4;
-    wire::read_u16(p, start_at(table, i) + 5)
-}
-
-fn start_at(table: &[u16], i: usize) -> usize
-    ensures { λ r. ⌜ (r ≡ getD (now (table .entry)) i 0) × (r < 65536) ⌝ }
-{
-    if i < table.len() {
-        return table[i] as usize;
-    }
-    0
+    wire::read_u16(p, record::number_at(table, i) as usize + 5)
 }
 
 // 0 where a number stands for no process data or property, else its DDI and 1.

@@ -15,7 +15,7 @@ there p table zero h = absurd (h refl)
 there p table (suc i) h = let e : suc i - 1 ≡ i = omega arith in rw e
 
 returns : tie.Need-returns
-returns c = sym (rw (c .if1 .taken))
+returns c = search needs
 
 sub-i : tie.Need-sub-i
 sub-i c = search needs
@@ -23,8 +23,11 @@ sub-i c = search needs
 mul-i : tie.Need-mul-i
 mul-i c = search needs
 
-start-at-requires : tie.Need-start-at-requires
-start-at-requires c κs = search needs
+number-at-requires : tie.Need-number-at-requires
+number-at-requires c κs = search needs
+
+cast-read-u16 : tie.Need-cast-read-u16
+cast-read-u16 c = search needs
 
 add-read-u16 : tie.Need-add-read-u16
 add-read-u16 c = search needs
@@ -33,9 +36,19 @@ read-u16-requires : tie.Need-read-u16-requires
 read-u16-requires c κs = search needs
 
 returns-2 : tie.Need-returns-2
-returns-2 c = c .read-u16 .ensures ∙ rw (c .before .start-at .ensures .0) (there (c .before .before .before .before .before .args .p .now) (c .before .before .before .before .before .args .table .now) (c .before .before .before .before .before .args .number) (c .before .before .if1 .left))
+returns-2 c =
+    let a = c .before .before .before .before .before .args in
+    c .read-u16 .ensures ∙ rw (c .before .number-at .ensures) (there (a .p .now) (a .table .now) (a .number) (c .before .before .if1 .left))
 
 pub ddi-at-spec : {M : Type 1} → statement M
 ddi-at-spec =
     tie.close
-    (tie.spec returns sub-i mul-i start-at-requires add-read-u16 read-u16-requires returns-2)
+    (tie.spec
+    returns
+    sub-i
+    mul-i
+    number-at-requires
+    cast-read-u16
+    add-read-u16
+    read-u16-requires
+    returns-2)
