@@ -1,0 +1,36 @@
+-- Writing a message: 31, 32, 33, or exactly eight bytes. Definitions only.
+use Prim.Native.Nat.{ℕ}
+use mathlib.Core.Bool.{Bool, true, false, not, cond, _||_}
+use mathlib.Core.List.{List}
+use lib.Dec.{eqb, ltb}
+use lib.IntN.{ℤ}
+use lib.ListN.{length}
+use lib.Seq.{sets}
+use Rattle.messages.specs.Layout.{carriesValue, valueBytes, acknowledgeBytes}
+use Rattle.messages.specs.Reading.{choose}
+use Rattle.messages.specs.declared.Written.{Written}
+use Rattle.messages.specs.declared.Written.the-variants.{Done, NoCommand, TooLarge, NoRoom}
+
+abbrev pub numberOf : Written → ℕ
+numberOf Done = 0
+numberOf NoCommand = 31
+numberOf TooLarge = 32
+numberOf NoRoom = 33
+
+-- a value message: its command carries a value, its element number is below 4096, and eight bytes are lent
+unfoldable pub valueRefusal : ℕ → ℕ → ℕ → ℕ
+valueRefusal command element room =
+    cond (not (carriesValue command)) 31 (cond (ltb 4095 element) 32 (cond (ltb room 8) 33 0))
+
+-- an acknowledge: element number and answered command are in range, and eight bytes are lent
+unfoldable pub acknowledgeRefusal : ℕ → ℕ → ℕ → ℕ
+acknowledgeRefusal element answered room = cond (ltb 4095 element || ltb 15 answered) 32 (cond (ltb room 8) 33 0)
+
+-- what is lent then starts with the message, and later bytes stay; a refusal changes nothing
+unfoldable pub valueAfter : List ℕ → ℕ → ℕ → ℕ → ℤ → List ℕ
+valueAfter to command element ddi value =
+    choose (eqb (valueRefusal command element (length to)) 0) (sets to 0 (valueBytes command element ddi value)) to
+
+unfoldable pub acknowledgeAfter : List ℕ → ℕ → ℕ → ℕ → ℕ → List ℕ
+acknowledgeAfter to element ddi errors answered =
+    choose (eqb (acknowledgeRefusal element answered (length to)) 0) (sets to 0 (acknowledgeBytes element ddi errors answered)) to
