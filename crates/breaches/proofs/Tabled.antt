@@ -53,7 +53,7 @@ module _ (table : List ℕ) (count : ℕ) where
     names x = named-listed table index count x listed
 
     -- an ID names none of the records that are not there
-    within : (x : ℕ) → named (shown table count) x ≤ count
+    pub within : (x : ℕ) → named (shown table count) x ≤ count
     within x = omega (arith, named-le (shown table count) x, shown-long table count)
 
     pub kind-named : (x : ℕ) → kindIn table (named (shown table count) x) ≡ kindOf (shown table count) (named (shown table count) x)
@@ -68,7 +68,7 @@ module _ (table : List ℕ) (count : ℕ) where
     ddi-is p zero h = refl
     ddi-is p (suc i) h = rw (start-is i (omega arith))
 
-    tag-is : (p : List ℕ) (r : ℕ) → r ≤ count → tagIn p table r ≡ tagOf p (shown table count) r
+    pub tag-is : (p : List ℕ) (r : ℕ) → r ≤ count → tagIn p table r ≡ tagOf p (shown table count) r
     unfolding tagOf
     tag-is p r h = rw (shown-kind table count r h, ddi-is p r h)
 

@@ -124,7 +124,7 @@ fn ddi_at(p: &[u8], table: &[u16], number: u16) -> u16
 }
 
 // 0 where a number stands for no process data or property, else its DDI and 1.
-pub(crate) fn tag_at(p: &[u8], table: &[u16], number: u16) -> usize
+pub fn tag_at(p: &[u8], table: &[u16], number: u16) -> usize
     ensures { λ r. ⌜ (r ≡ tagIn (now (p .entry)) (now (table .entry)) number) × (r ≤ 65536) ⌝ }
 {
     if is_data(naming::kind_at(table, number)) {

@@ -1,5 +1,5 @@
 // The breaches of one record, put into a fault buffer in the order of rules and items.
 mod clean;
-mod element;
+pub mod element;
 mod fields;
 pub mod record;

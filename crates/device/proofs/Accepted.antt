@@ -32,7 +32,7 @@ pub refusal-none : (a : Answer) → a .number ≡ 0 → a .value ≡ 0 → 0 ≡
 refusal-none a e f = rw (e, f)
 
 -- a list with a member is not empty
-some-member : (f : Fault) (l : List Fault) → List·Memᴰ f l → length l ≡ 0 → ⊥
+pub some-member : (f : Fault) (l : List Fault) → List·Memᴰ f l → length l ≡ 0 → ⊥
 some-member f [] m e = List·Memᴰ·not-nil m
 some-member f (x ∷ l) m e = omega arith
 
@@ -52,7 +52,7 @@ module _ (p : List ℕ) (room : ℕ) (ok : acceptance p room ≡ 0) where
       go zero v h = refl
       go (suc n) v h = absurd (unread (length (breachesOf p)) n v h)
 
-  accepted-clean : length (breachesOf p) ≡ 0
+  pub accepted-clean : length (breachesOf p) ≡ 0
   unfolding acceptance checkOf
   accepted-clean = go (readOf p room .number) (readOf p room .value) ok
     where

@@ -64,10 +64,10 @@ module _ (p table filled : List ℕ) (n : ℕ) (ok : 0 ≡ acceptance p (roomOf 
   pub may-look : (n * width ≤ length filled) × (n ≤ 8192)
   may-look = let m = may-count p table filled n read f in (m .0, m .1)
 
-  shows : shown filled n ≡ entriesIn (scanOf p)
+  pub shows : shown filled n ≡ entriesIn (scanOf p)
   shows = ap (λ (t : List ℕ). shown t n) f ∙ table-shows p table n read
 
-  long : length (entriesIn (scanOf p)) ≡ n
+  pub long : length (entriesIn (scanOf p)) ≡ n
   long = sym (ap length shows) ∙ shown-long filled n
 
   pub ids-first : (r id : ℕ) → r ≡ firstOf (columnIn filled 3) id n → r ≡ carrier (entriesIn (scanOf p)) id

@@ -30,7 +30,7 @@ pub struct DeviceLabels {
 }
 
 // Why a pool that has been checked is not accepted, 0 where it is.
-fn refusal(verdict: Verdict) -> u32
+pub fn refusal(verdict: Verdict) -> u32
     ensures { λ r. ⌜ r ≡ refusalIn (verdictOf verdict) ⌝ }
 {
     let number = checker::number_of(verdict);

@@ -36,7 +36,7 @@ pub enum Written {
 }
 
 // Whether a command carries a value: 2 to 8 and A.
-fn carries_value(command: u8) -> bool
+pub fn carries_value(command: u8) -> bool
     ensures { λ r. ⌜ r ≡ carriesValue command ⌝ }
 {
     ((2 <= command) & (command <= 8)) | (command == 10)

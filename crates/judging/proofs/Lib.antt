@@ -1,0 +1,4 @@
+-- What belongs to no one function.
+pub mod Found
+pub mod Erring
+pub mod Unique

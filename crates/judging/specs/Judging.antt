@@ -1,0 +1,85 @@
+-- Judging a command to the device: document 01, the last paragraph of "Process data messages". Definitions only.
+use Prim.Native.Nat.{ℕ, zero, suc, _/_, _%_, _^_}
+use mathlib.Core.Bool.{Bool, cond, not, _&&_, _||_}
+use mathlib.Core.List.{List}
+use lib.Dec.{eqb, ltb}
+use lib.IntN.{ℤ, pos}
+use lib.ListN.{length}
+use lib.Signed.{ltZ}
+use Rattle.records.specs.Fields.{elementOf, entryOf, processDataOf}
+use Rattle.pool.specs.Reading.{Entry, scanOf, entriesIn, tableAfter}
+use Rattle.naming.specs.Naming.{firstOf, numberKey, named, kindOf, tagOf}
+use Rattle.checker.specs.Checking.{pickList}
+use Rattle.device.specs.Queries.{acceptance, startOf}
+use Rattle.messages.specs.Layout.{carriesValue}
+
+-- 0x02: the device element with an element number, by its record's number from 1; 0 for none
+unfoldable pub elementFor : List ℕ → List Entry → ℕ → ℕ
+elementFor p es element = firstOf (numberKey p es) element (length es)
+
+-- 0x04: the process data or property of a DDI, by its record's number from 1, 0 for none. Only the list of the element that
+-- starts at a place is looked at, and its first entry with the DDI counts
+unfoldable pub entryFor : List ℕ → List Entry → ℕ → ℕ → ℕ
+entryFor p es at ddi = firstOf (λ (m : ℕ). tagOf p es (named es (entryOf p at m))) (suc ddi) (elementOf p at .entries)
+
+abbrev pub namedBy : List ℕ → List Entry → ℕ → ℕ → ℕ
+namedBy p es at zero = 0
+namedBy p es at (suc m) = named es (entryOf p at m)
+
+abbrev pub objectFor : List ℕ → List Entry → ℕ → ℕ → ℕ
+objectFor p es at ddi = namedBy p es at (entryFor p es at ddi)
+
+-- the two bytes of flags, by the number of the object's kind and its start: process data has them, a property's are all clear
+abbrev pub propertiesIn : List ℕ → ℕ → ℕ → ℕ
+propertiesIn p kind at = cond (eqb kind 3) (processDataOf p at .properties) 0
+
+abbrev pub triggersIn : List ℕ → ℕ → ℕ → ℕ
+triggersIn p kind at = cond (eqb kind 3) (processDataOf p at .triggers) 0
+
+abbrev pub isClear : ℕ → ℕ → Bool
+isClear bit x = eqb (x / 2 ^ bit % 2) 0
+
+-- 0x10: 3 and A set a value, which needs property bit 1
+abbrev pub lacksSetting : ℕ → ℕ → Bool
+lacksSetting properties command = (eqb command 3 || eqb command 10) && isClear 1 properties
+
+-- 0x08: 4 to 8 start a measurement, each by its own trigger, 6 and 7 by the same
+abbrev pub lacksTrigger : ℕ → ℕ → Bool
+lacksTrigger triggers command =
+    (eqb command 4 && isClear 0 triggers)
+    || ((eqb command 5 && isClear 1 triggers)
+    || (((eqb command 6 || eqb command 7) && isClear 2 triggers)
+    || (eqb command 8 && isClear 3 triggers)))
+
+-- 0x20: 4 and 5 carry an interval, of time or distance
+abbrev pub lacksInterval : ℤ → ℕ → Bool
+lacksInterval value command = (eqb command 4 || eqb command 5) && ltZ value (pos 0)
+
+-- the error byte, from the object on and from the command on: the first test that holds gives it
+unfoldable pub objectError : ℕ → ℕ → ℕ → ℤ → ℕ
+objectError properties triggers command value =
+    cond (lacksSetting properties command) 0x10
+    (cond (lacksTrigger triggers command) 0x08
+    (cond (lacksInterval value command) 0x20 0))
+
+unfoldable pub errorOf : List ℕ → List Entry → ℕ → ℕ → ℕ → ℤ → ℕ
+errorOf p es command element ddi value =
+    let at = startOf es (elementFor p es element) in
+    let object = objectFor p es at ddi in
+    cond (not (carriesValue command)) 0x01
+    (cond (eqb (elementFor p es element) 0) 0x02
+    (cond (eqb object 0) 0x04
+    (objectError (propertiesIn p (kindOf es object) (startOf es object)) (triggersIn p (kindOf es object) (startOf es object)) command value)))
+
+-- 32 for an element number that no element has, whatever the pool is; else why the pool is not accepted; else 0
+unfoldable pub judgeNumber : List ℕ → ℕ → ℕ → ℕ
+judgeNumber p room element = cond (ltb 4095 element) 32 (acceptance p room)
+
+-- the error byte goes with number 0 only
+unfoldable pub judgeError : List ℕ → ℕ → ℕ → ℕ → ℕ → ℤ → ℕ
+judgeError p room command element ddi value =
+    cond (eqb (judgeNumber p room element) 0) (errorOf p (entriesIn (scanOf p)) command element ddi value) 0
+
+-- the pool is not looked at for 32, so the table stays; else it is filled as by reading
+unfoldable pub judgeTable : List ℕ → List ℕ → ℕ → List ℕ
+judgeTable p table element = pickList (ltb 4095 element) table (tableAfter p table)

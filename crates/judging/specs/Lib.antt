@@ -1,0 +1,4 @@
+-- What the contracts of `judging` cite, in the order to read it.
+pub mod Judging
+pub mod One
+pub mod Parts

@@ -1,0 +1,25 @@
+-- What private functions read off the table and the list by ID: no public contract rests on these. Definitions only.
+use Prim.Native.Nat.{ℕ, zero, suc, _*_}
+use mathlib.Core.List.{List}
+use lib.ListN.{getD}
+use Rattle.records.specs.Fields.{entryOf}
+use Rattle.pool.specs.Reading.{width}
+use Rattle.naming.specs.Naming.{firstOf}
+use Rattle.breaches.specs.Lists.{namedIn, tagIn}
+
+-- where the record with a number from 1 starts, by the table
+abbrev pub startIn : List ℕ → ℕ → ℕ
+startIn table zero = 0
+startIn table (suc i) = getD table (i * width) 0
+
+-- the number of the record that entry m of a list names, and the first of its first size entries with a DDI
+abbrev pub entryIn : List ℕ → List ℕ → ℕ → ℕ → ℕ
+entryIn p index at m = namedIn index (entryOf p at m)
+
+abbrev pub namedFrom : (ℕ → ℕ) → ℕ → ℕ
+namedFrom entry zero = 0
+namedFrom entry (suc m) = entry m
+
+abbrev pub objectIn : List ℕ → List ℕ → List ℕ → ℕ → ℕ → ℕ → ℕ
+objectIn p table index at size ddi =
+    namedFrom (entryIn p index at) (firstOf (λ (m : ℕ). tagIn p table (entryIn p index at m)) (suc ddi) size)
