@@ -2,3 +2,4 @@
 pub mod Numbers
 pub mod Sessions
 pub mod Display
+pub mod Exchange

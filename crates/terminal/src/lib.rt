@@ -2,6 +2,7 @@
 use device::DeviceLabels;
 
 pub mod display;
+pub mod exchange;
 pub mod sessions;
 
 ghost use mathlib.Core.Path.{_≡_};

@@ -1,0 +1,126 @@
+// Process data messages for C: read, written and judged.
+use messages::Message;
+ghost use mathlib.Core.Path.{_≡_};
+ghost use lib.ListN.{length};
+ghost use Rattle.pool.specs.Reading.{roomOf};
+ghost use Rattle.messages.specs.Reading.{refused, fieldsOf, readOf};
+ghost use Rattle.messages.specs.Writing.{valueRefusal, valueAfter, acknowledgeRefusal, acknowledgeAfter};
+ghost use Rattle.judging.specs.Judging.{judgeNumber, judgeError, judgeTable};
+ghost use Rattle.terminal.specs.Exchange.{fieldsIn};
+
+// A message that is read: number 0 and its fields, an acknowledge with command 13, or the number of a refusal with zeros.
+#[repr(C)]
+pub struct MessageFields {
+    pub number: u32,
+    pub command: u8,
+    pub element: u16,
+    pub ddi: u16,
+    pub value: i32,
+    pub errors: u8,
+    pub answered: u8,
+}
+
+fn give_refusal(number: u32) -> MessageFields
+    ensures { λ r. ⌜ fieldsIn r ≡ refused number ⌝ }
+{
+    MessageFields {
+        number,
+        command: 0,
+        element: 0,
+        ddi: 0,
+        value: 0,
+        errors: 0,
+        answered: 0,
+    }
+}
+
+fn give_message(message: Message) -> MessageFields
+    ensures { λ r. ⌜ fieldsIn r ≡ fieldsOf message ⌝ }
+{
+    match message {
+        Message::Value {
+            command,
+            element,
+            ddi,
+            value,
+        } => MessageFields {
+            number: 0,
+            command,
+            element,
+            ddi,
+            value,
+            errors: 0,
+            answered: 0,
+        },
+        Message::Acknowledge {
+            element,
+            ddi,
+            errors,
+            answered,
+        } => MessageFields {
+            number: 0,
+            command: 13,
+            element,
+            ddi,
+            value: 0,
+            errors,
+            answered,
+        },
+        Message::NotEight => give_refusal(30),
+        Message::NoCommand => give_refusal(31),
+    }
+}
+
+// Reads a message.
+#[no_mangle]
+pub extern "C" fn lachsbrille_message_read(bytes: &[u8]) -> MessageFields
+    ensures { λ r. ⌜ fieldsIn r ≡ readOf (now (bytes .entry)) ⌝ }
+{
+    give_message(messages::read(bytes))
+}
+
+// Writes a value message.
+#[no_mangle]
+pub extern "C" fn lachsbrille_message_write_value(
+    to: &mut [u8],
+    command: u8,
+    element: u16,
+    ddi: u16,
+    value: i32,
+) -> u32
+    ensures { λ r. ⌜ (r ≡ valueRefusal command element (length (now (to .entry)))) × (now (to .exit) ≡ valueAfter (now (to .entry)) command element ddi value) ⌝ }
+{
+    messages::number_of(messages::write_value(to, command, element, ddi, value))
+}
+
+// Writes an acknowledge.
+#[no_mangle]
+pub extern "C" fn lachsbrille_message_write_acknowledge(
+    to: &mut [u8],
+    element: u16,
+    ddi: u16,
+    errors: u8,
+    answered: u8,
+) -> u32
+    ensures { λ r. ⌜ (r ≡ acknowledgeRefusal element answered (length (now (to .entry)))) × (now (to .exit) ≡ acknowledgeAfter (now (to .entry)) element ddi errors answered) ⌝ }
+{
+    messages::number_of(messages::write_acknowledge(to, element, ddi, errors, answered))
+}
+
+// Judges a command to the device: the error byte goes into the lent byte, 0 where the call is refused.
+#[no_mangle]
+pub extern "C" fn lachsbrille_judge(
+    p: &[u8],
+    table: &mut [u16],
+    command: u8,
+    element: u16,
+    ddi: u16,
+    value: i32,
+    error: &mut u8,
+) -> u32
+    ensures { λ r. ⌜ (r ≡ judgeNumber (now (p .entry)) (roomOf (now (table .entry))) element) × (now (error .exit) ≡ judgeError (now (p .entry)) (roomOf (now (table .entry))) command element ddi value) × (now (table .exit) ≡ judgeTable (now (p .entry)) (now (table .entry)) element) ⌝ }
+{
+    let judgement = judging::judge(p, table, command, element, ddi, value);
+    *error = judgement.error;
+    judgement.number
+}
