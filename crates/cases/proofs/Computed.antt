@@ -13,9 +13,12 @@ use Rattle.naming.specs.Naming.{firstOf, named, parentOf, climb, tagOf, among}
 use Rattle.rules.specs.Table.{repeats, unsound, doubled, kindRows, breachesIn, breachesOf}
 use Rattle.checker.specs.Checking.{checkOf}
 use Rattle.book.specs.Book.{noted, bookOf, saidOf}
+use Rattle.device.specs.Queries.{acceptance}
+use Rattle.messages.specs.Reading as messages
+use Rattle.judging.specs.Judging.{elementFor, entryFor, objectError, errorOf, judgeNumber, judgeError}
 use Rattle.cases.specs.Starred.{cases, Hold}
 use Rattle.cases.specs.Worked.{Worked}
 
 pub computed : Hold cases × Worked
-unfolding leOf numberAt signedOf mark layout markOf fieldEnd extentOf fieldAt idOf deviceOf elementOf entryOf processDataOf propertyOf presentationOf scanFrom scanOf readOf width charactersIn soundText upTo inRows inRecords firstOf named parentOf climb tagOf among repeats unsound doubled kindRows breachesIn breachesOf checkOf noted bookOf saidOf
-computed = ((refl, (refl, (refl, (refl, (refl, (refl, (refl, (refl, (refl, (refl, (refl, (refl, tt)))))))))))), record { told = refl; kept = refl; still = refl; gone = refl })
+unfolding leOf numberAt signedOf mark layout markOf fieldEnd extentOf fieldAt idOf deviceOf elementOf entryOf processDataOf propertyOf presentationOf scanFrom scanOf readOf width charactersIn soundText upTo inRows inRecords firstOf named parentOf climb tagOf among repeats unsound doubled kindRows breachesIn breachesOf checkOf noted bookOf saidOf acceptance messages.readOf elementFor entryFor objectError errorOf judgeNumber judgeError
+computed = ((refl, (refl, (refl, (refl, (refl, (refl, (refl, (refl, (refl, (refl, (refl, (refl, (refl, (refl, (refl, (refl, tt)))))))))))))))), record { told = refl; kept = refl; still = refl; gone = refl })

@@ -3,6 +3,7 @@
 use Prim.Native.Nat.{ℕ}
 use mathlib.Core.Path.{_≡_}
 use mathlib.Core.List.{List, [], _∷_}
+use lib.IntN.{pos, negsuc}
 use lib.ListN.{take, replicate}
 use Rattle.pool.specs.Answer.{Answer, answer}
 use Rattle.pool.specs.Reading.{readOf}
@@ -10,6 +11,9 @@ use Rattle.faults.specs.Faults.{Fault, fault}
 use Rattle.rules.specs.Table.{breachesOf}
 use Rattle.checker.specs.Checking.{checkOf}
 use Rattle.book.specs.Book.{Said, said, blank, saidOf, Call, offer, transfer, activate}
+use Rattle.messages.specs.Reading as messages
+use Rattle.messages.specs.Reading.{Fields, valued}
+use Rattle.judging.specs.Judging.{judgeNumber, judgeError}
 use Rattle.cases.specs.Pools.{poolWith, poolP, poolQ, named}
 
 -- a case: what is computed, and what it has to be
@@ -38,6 +42,15 @@ lastOf (q ∷ (r ∷ qs)) = lastOf (r ∷ qs)
 abbrev pub tells : List Call → Said → Case
 tells cs q = record { of = Said; is = lastOf (saidOf 100 100 blank cs); due = q }
 
+-- a message's fields
+abbrev pub carries : List ℕ → Fields → Case
+carries s f = record { of = Fields; is = messages.readOf s; due = f }
+
+-- over Q, with a table of 2,048 entries: a command to element 1, DDI 141, value 1000, is judged and gives this error byte
+abbrev pub judges : ℕ → ℕ → Case
+judges command error =
+    record { of = Answer; is = answer (judgeNumber poolQ 2048 1) (judgeError poolQ 2048 command 1 141 (pos 1000)); due = answer 0 error }
+
 abbrev pub cases : List Case
 cases =
     -- the empty pool is refused with 1
@@ -60,6 +73,12 @@ cases =
     ∷ breaches (poolWith 1) (fault 2 9 1 ∷ [])
     -- Q is announced with 71 bytes, its first 44 are sent: activating is refused with 23
     ∷ tells (offer 71 ∷ transfer (take 44 poolQ) ∷ activate (replicate 40 0) ∷ []) (said 23 0)
+    -- a message for element 18 sets DDI 141 to -1
+    ∷ carries (0x23 ∷ 0x01 ∷ 0x8D ∷ 0x00 ∷ 0xFF ∷ 0xFF ∷ 0xFF ∷ 0xFF ∷ []) (valued 3 18 141 (negsuc 0))
+    -- Q's process data may not be set, has a trigger for time and none for distance
+    ∷ judges 3 0x10
+    ∷ judges 4 0
+    ∷ judges 5 0x08
     ∷ []
 
 -- every case of a list holds
