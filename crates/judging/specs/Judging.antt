@@ -55,13 +55,14 @@ lacksTrigger triggers command =
 abbrev pub lacksInterval : ℤ → ℕ → Bool
 lacksInterval value command = (eqb command 4 || eqb command 5) && ltZ value (pos 0)
 
--- the error byte, from the object on and from the command on: the first test that holds gives it
+-- the error byte is that of the first test that holds: from the object on
 unfoldable pub objectError : ℕ → ℕ → ℕ → ℤ → ℕ
 objectError properties triggers command value =
     cond (lacksSetting properties command) 0x10
     (cond (lacksTrigger triggers command) 0x08
     (cond (lacksInterval value command) 0x20 0))
 
+-- and from the command on, where 0x01 is for one that carries no value
 unfoldable pub errorOf : List ℕ → List Entry → ℕ → ℕ → ℕ → ℤ → ℕ
 errorOf p es command element ddi value =
     let at = startOf es (elementFor p es element) in
