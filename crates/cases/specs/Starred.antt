@@ -1,4 +1,4 @@
--- The starred worked lines of document 01, as one list. Each line names what it states; lines of later parts join here.
+-- The starred worked lines of document 01, every one of them, as one list. Each line says what it states.
 -- Definitions only.
 use Prim.Native.Nat.{ℕ}
 use mathlib.Core.Path.{_≡_}
