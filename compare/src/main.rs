@@ -6,6 +6,7 @@ mod breaches;
 mod calls;
 mod census;
 mod crowded;
+mod exchange;
 mod extremes;
 mod fields;
 mod fixed;

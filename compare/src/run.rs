@@ -2,6 +2,7 @@
 
 use crate::calls::{self, Compared};
 use crate::census::Census;
+use crate::exchange;
 use crate::fixed;
 use crate::generated;
 use crate::input::{Input, Known};
@@ -51,7 +52,8 @@ pub fn run(options: Options) -> io::Result<bool> {
     }
     let texts = texts::compare(options.seed, options.pools);
     let sessions = sessions::compare(options.seed, options.lists, options.long);
-    Ok(run.report(&texts, &sessions))
+    let exchange = exchange::compare(options.seed, options.pools)?;
+    Ok(run.report(&texts, &sessions, &exchange))
 }
 
 struct Run {
@@ -175,7 +177,12 @@ impl Run {
         }
     }
 
-    fn report(&self, texts: &Report, sessions: &sessions::Report) -> bool {
+    fn report(
+        &self,
+        texts: &Report,
+        sessions: &sessions::Report,
+        exchange: &exchange::Report,
+    ) -> bool {
         self.tallies.print();
         self.census.print();
         println!("texts: {} compared, {} sound", texts.compared, texts.sound);
@@ -183,17 +190,24 @@ impl Run {
             println!("first text that differs: {}", hex(text));
         }
         sessions.print();
+        exchange.print();
         let unseen = [
             self.tallies.unseen(),
             self.census.unseen(),
             sessions.unseen(),
+            exchange.unseen(),
         ]
         .concat();
         for what in &unseen {
             println!("compare: {what} was never seen");
         }
-        let inputs = self.tallies.inputs() + texts.compared + sessions.lists + sessions.singles;
-        let differences = self.differences + texts.differences + sessions.differences;
+        let inputs = self.tallies.inputs()
+            + texts.compared
+            + sessions.lists
+            + sessions.singles
+            + exchange.compared();
+        let differences =
+            self.differences + texts.differences + sessions.differences + exchange.differences();
         println!("compare: {inputs} inputs, {differences} differences");
         differences == 0 && unseen.is_empty()
     }

@@ -4,9 +4,12 @@
 
 mod book;
 mod chains;
+mod displayed;
 mod faults;
 mod fields;
+mod judging;
 mod lister;
+mod messages;
 mod numbers;
 mod pool;
 mod queries;
@@ -15,8 +18,11 @@ mod session;
 mod texts;
 
 pub use book::{Book, Entry};
+pub use displayed::displayed;
 pub use faults::Fault;
+pub use judging::judge;
 pub use lister::list;
+pub use messages::{read_message, write_acknowledge, write_value, Message};
 pub use pool::{read_pool, Kind, Record, Refusal, MAX_POOL_BYTES, MAX_RECORDS};
 pub use queries::{labels, text, Labels};
 pub use rules::check;

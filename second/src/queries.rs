@@ -57,7 +57,10 @@ pub fn labels(pool: &[u8], table: &mut [Record]) -> Result<Labels, u8> {
 }
 
 /// The records of a pool without faults.
-fn accepted_records<'a>(pool: &[u8], table: &'a mut [Record]) -> Result<&'a [Record], u8> {
+pub(crate) fn accepted_records<'a>(
+    pool: &[u8],
+    table: &'a mut [Record],
+) -> Result<&'a [Record], u8> {
     match read_and_check(pool, table, &mut []) {
         Ok((records, 0)) => Ok(records),
         Ok(_) => Err(FAULTY_POOL),

@@ -11,14 +11,14 @@ use std::ops::RangeInclusive;
 
 const DEVICE_TYPE: u8 = 1;
 const ELEMENT_TYPES: RangeInclusive<u8> = 1..=7;
-const MAX_ELEMENT_NUMBER: u16 = 4_095;
-const SETTABLE: u8 = 1 << 1;
+pub(crate) const MAX_ELEMENT_NUMBER: u16 = 4_095;
+pub(crate) const SETTABLE: u8 = 1 << 1;
 const CONTROL_SOURCE: u8 = 1 << 2;
 const PROPERTY_BITS: u8 = 0b111;
 const TRIGGER_BITS: u8 = 0b1_1111;
 /// Scales are compared as bits: a NaN is no member of the range.
-const SCALE_BITS: RangeInclusive<u32> = 0x322B_CC77..=0x4CBE_BC20;
-const MAX_DECIMALS: u8 = 7;
+pub(crate) const SCALE_BITS: RangeInclusive<u32> = 0x322B_CC77..=0x4CBE_BC20;
+pub(crate) const MAX_DECIMALS: u8 = 7;
 /// In a label no byte is set to this one, save the last localization byte.
 const UNUSED_BYTE: u8 = 255;
 

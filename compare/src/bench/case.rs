@@ -3,6 +3,7 @@
 use super::keep;
 use super::times::time;
 use crate::calls;
+use crate::exchange::{judge_by_both, Order};
 use crate::lent::LentPool;
 use crate::library::{self, ENTRY_WORDS, FAULT_WORDS};
 use crate::objects::{pool_of, Object};
@@ -19,6 +20,7 @@ pub enum Work {
     Read,
     Check,
     Query(Query),
+    Judge(Order),
 }
 
 pub struct Case {
@@ -56,12 +58,14 @@ impl Case {
     pub fn compare(&self, work: Work) -> Result<(), String> {
         let pool = LentPool::new(&self.pool);
         let table = self.table_words.len();
-        let compared = match work {
-            Work::Read => calls::read(&pool, table),
-            Work::Check => calls::check(&pool, table, FAULT_WORDS * (self.faults + 1)),
-            Work::Query(query) => query.compare(&pool, table),
+        let faults = FAULT_WORDS * (self.faults + 1);
+        let difference = match work {
+            Work::Read => calls::read(&pool, table).difference,
+            Work::Check => calls::check(&pool, table, faults).difference,
+            Work::Query(query) => query.compare(&pool, table).difference,
+            Work::Judge(order) => judge_by_both(&self.pool, table, order).err(),
         };
-        match compared.difference {
+        match difference {
             None => Ok(()),
             Some(difference) => {
                 let bytes = self.pool.len();
@@ -86,6 +90,7 @@ impl Case {
             Work::Read => keep(library::read(pool, table)),
             Work::Check => keep(library::check(pool, table, faults)),
             Work::Query(query) => query.by_library(pool, table),
+            Work::Judge(order) => keep(order.judge_by_library(pool, table)),
         }
     }
 
@@ -97,6 +102,7 @@ impl Case {
             Work::Read => keep(second::read_pool(pool, table)),
             Work::Check => keep(second::check(pool, table, faults)),
             Work::Query(query) => query.by_second(pool, table),
+            Work::Judge(order) => keep(order.judge_by_second(pool, table)),
         }
     }
 

@@ -1,6 +1,7 @@
 //! Times the library against the second implementation.
 
 mod case;
+mod exchange;
 mod extremes;
 mod queries;
 mod sessions;
@@ -19,7 +20,8 @@ pub fn bench() -> bool {
         .and_then(|()| extremes::bench());
     let outcome = outcome
         .and_then(|()| queries::bench())
-        .and_then(|()| sessions::bench());
+        .and_then(|()| sessions::bench())
+        .and_then(|()| exchange::bench());
     if let Err(difference) = &outcome {
         println!("bench: the sides do not agree about {difference}");
     }

@@ -1,34 +1,86 @@
-//! Texts and labels of a sound pool.
+//! Texts and labels of a sound pool, and commands judged by it.
 
 use super::case::{Case, Work};
 use super::times::{print_head, Times};
+use crate::exchange::Order;
+use crate::objects::Object;
 use crate::queries::Query;
 use crate::realistic::realistic;
+use second::{Kind, MAX_POOL_BYTES};
 
 const SIZE: usize = 8_000;
+/// Data of 12 bytes each, with an entry of 2, beside 44 bytes.
+const LISTED: u16 = ((MAX_POOL_BYTES - 44) / 14) as u16;
 const ROUNDS: usize = 51;
-const CALLS: usize = 100;
+const MOST_CALLS: usize = 100;
+/// Microseconds of a round, so that it is long against the clock's step.
+const ROUND: f64 = 1e3;
 
 pub fn bench() -> Result<(), String> {
     let objects = realistic(SIZE);
     let last = objects[objects.len() - 1].id;
-    let mut case = Case::new(&objects);
-    print_head(
-        "microseconds a query",
-        &["library", "second", "library/second"],
-    );
-    for (name, query) in [
+    let queries = [
         ("text of the device", Query::Text(0)),
         ("text of the last record", Query::Text(last)),
         ("text of no record", Query::Text(last + 1)),
         ("labels", Query::Labels),
-    ] {
-        let work = Work::Query(query);
+    ];
+    let queries = queries.map(|(name, query)| (name, Work::Query(query)));
+    bench_all("microseconds a query", &objects, &queries)?;
+    let mut elements = objects.iter().filter(|it| it.kind == Kind::Det);
+    let last_element = elements.next_back().map_or(0, |it| it.number);
+    let judged = [
+        ("command 1", judge(1, 0, 0)),
+        ("command 4, first element", judge(4, 0, 0)),
+        ("command 4, last element", judge(4, last_element, 0)),
+        ("command 4, no element", judge(4, last_element + 1, 0)),
+    ];
+    bench_all("microseconds a judgement", &objects, &judged)?;
+    let objects = one_list();
+    let judged = [
+        ("command 1", judge(1, 0, 0)),
+        ("first DDI of the list", judge(4, 0, 0)),
+        ("last DDI of the list", judge(4, 0, LISTED - 1)),
+        ("no DDI of the list", judge(4, 0, LISTED)),
+    ];
+    let title = "microseconds a judgement, by one list that names all data";
+    bench_all(title, &objects, &judged)
+}
+
+fn judge(command: u8, element: u16, ddi: u16) -> Work {
+    Work::Judge(Order {
+        command,
+        element,
+        ddi,
+        value: 1_000,
+    })
+}
+
+/// A sound pool whose only list is as long as can be.
+fn one_list() -> Vec<Object> {
+    let mut element = Object::plain(Kind::Det, 1);
+    element.entries = (0..LISTED).map(|ddi| ddi + 2).collect();
+    let mut objects = vec![Object::plain(Kind::Dvc, 0), element];
+    for ddi in 0..LISTED {
+        let mut data = Object::plain(Kind::Dpd, ddi + 2);
+        data.ddi = ddi;
+        data.triggers = 1;
+        objects.push(data);
+    }
+    objects
+}
+
+fn bench_all(title: &str, objects: &[Object], works: &[(&str, Work)]) -> Result<(), String> {
+    let mut case = Case::new(objects);
+    print_head(title, &["library", "second", "library/second"]);
+    for &(name, work) in works {
         case.compare(work)?;
+        let once = case.time_library(work, 1);
+        let calls = ((ROUND / once).ceil() as usize).min(MOST_CALLS);
         let (mut library, mut second) = (Vec::new(), Vec::new());
         for _ in 0..ROUNDS {
-            library.push(case.time_library(work, CALLS));
-            second.push(case.time_second(work, CALLS));
+            library.push(case.time_library(work, calls));
+            second.push(case.time_second(work, calls));
         }
         let (library, second) = (Times::of(library), Times::of(second));
         case.print(name);

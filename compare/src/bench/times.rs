@@ -33,6 +33,14 @@ impl Times {
         }
     }
 
+    /// Calls a second in millions, of times in nanoseconds.
+    pub fn a_second(self) -> Times {
+        Times {
+            best: 1e3 / self.best,
+            median: 1e3 / self.median,
+        }
+    }
+
     pub fn print(self) {
         print!("{:>10.2}{:>10.2}", self.best, self.median);
     }

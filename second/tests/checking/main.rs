@@ -1,10 +1,14 @@
-//! Tests of checking, texts, labels and sessions through the public functions.
+//! Tests of checking, texts, labels, sessions, messages and displayed values
+//! through the public functions.
 
 mod buffers;
 mod chains;
 mod cross_check;
+mod displayed;
+mod judging;
 mod lists;
 mod literal;
+mod messages;
 mod pools;
 mod queries;
 mod ranges;

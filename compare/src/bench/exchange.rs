@@ -1,0 +1,170 @@
+//! Messages and displayed values, many at a time.
+
+use super::keep;
+use super::times::{time, Times};
+use crate::exchange::{displayed, read_message, write_value, Fields};
+use crate::random::Random;
+use std::hint::black_box;
+
+const SEED: u64 = 11783;
+const ROUNDS: usize = 101;
+/// Items of a round, worked through so often that a round is long against the
+/// clock's step.
+const ITEMS: usize = 1_000;
+const REPEATS: usize = 200;
+
+const DECIMALS: u8 = 2;
+const VALUE_COMMANDS: [u8; 8] = [2, 3, 4, 5, 6, 7, 8, 10];
+
+struct Item {
+    bytes: [u8; 8],
+    command: u8,
+    element: u16,
+    ddi: u16,
+    value: i32,
+    offset: i32,
+    scale: f32,
+}
+
+impl Item {
+    fn draw(random: &mut Random) -> Self {
+        let mut bytes = [0; 8];
+        let command = random.pick(&VALUE_COMMANDS);
+        let element = random.between(0, 4_095) as u16;
+        let ddi = random.draw() as u16;
+        let value = random.draw() as i32;
+        write_value(&mut bytes, command, element, ddi, value);
+        Item {
+            bytes,
+            command,
+            element,
+            ddi,
+            value,
+            offset: random.draw() as i32,
+            scale: random.pick(&[0.001, 0.01, 0.1, 0.5, 1.0, 3.6]),
+        }
+    }
+
+    /// Has both sides do all work once.
+    fn compare(&self) -> Result<(), String> {
+        let fields = read_message(&self.bytes);
+        let (mut ours, mut theirs) = ([0; 8], [0; 8]);
+        let Item {
+            command,
+            element,
+            ddi,
+            value,
+            offset,
+            scale,
+            ..
+        } = *self;
+        let written = write_value(&mut ours, command, element, ddi, value);
+        let also = second::write_value(&mut theirs, command, element, ddi, value);
+        let mut shown = 0.0;
+        let number = displayed(value, offset, scale, DECIMALS, &mut shown);
+        let expected = second::displayed(value, offset, scale, DECIMALS);
+        if fields != Fields::of(second::read_message(&self.bytes)) {
+            Err(format!("reading {:02X?}", self.bytes))
+        } else if ours != theirs || (written, also) != (0, Ok(())) {
+            Err(format!("writing {:02X?}", self.bytes))
+        } else if (number, expected.map(f64::to_bits)) != (0, Ok(shown.to_bits())) {
+            Err(format!("displaying {value}"))
+        } else {
+            Ok(())
+        }
+    }
+
+    fn read_by_library(&self) {
+        keep(read_message(&self.bytes));
+    }
+
+    fn read_by_second(&self) {
+        keep(second::read_message(&self.bytes));
+    }
+
+    fn write_by_library(&self) {
+        let mut to = [0; 8];
+        keep(write_value(
+            black_box(&mut to),
+            self.command,
+            self.element,
+            self.ddi,
+            self.value,
+        ));
+        keep(to);
+    }
+
+    fn write_by_second(&self) {
+        let mut to = [0; 8];
+        keep(second::write_value(
+            black_box(&mut to),
+            self.command,
+            self.element,
+            self.ddi,
+            self.value,
+        ));
+        keep(to);
+    }
+
+    fn display_by_library(&self) {
+        let mut result = 0.0;
+        keep(displayed(
+            self.value,
+            self.offset,
+            self.scale,
+            DECIMALS,
+            &mut result,
+        ));
+        keep(result);
+    }
+
+    fn display_by_second(&self) {
+        keep(second::displayed(
+            self.value,
+            self.offset,
+            self.scale,
+            DECIMALS,
+        ));
+    }
+}
+
+pub fn bench() -> Result<(), String> {
+    let random = &mut Random::new(SEED);
+    let items: Vec<Item> = (0..ITEMS).map(|_| Item::draw(random)).collect();
+    items.iter().try_for_each(Item::compare)?;
+    println!();
+    println!("nanoseconds a call; a second: the library's calls, in millions");
+    println!(
+        "{:>28}{:>20}{:>20}{:>20}{:>20}",
+        "", "library", "second", "library/second", "a second"
+    );
+    let columns = format!("{:>10}{:>10}", "best", "median");
+    println!("{:>28}{}", "", columns.repeat(4));
+    let read = (Item::read_by_library, Item::read_by_second);
+    bench_one("message read", &items, read.0, read.1);
+    let write = (Item::write_by_library, Item::write_by_second);
+    bench_one("value message written", &items, write.0, write.1);
+    let display = (Item::display_by_library, Item::display_by_second);
+    bench_one("displayed value", &items, display.0, display.1);
+    Ok(())
+}
+
+fn bench_one(name: &str, items: &[Item], by_library: impl Fn(&Item), by_second: impl Fn(&Item)) {
+    let (mut library, mut second) = (Vec::new(), Vec::new());
+    for _ in 0..ROUNDS {
+        library.push(nanoseconds(items, &by_library));
+        second.push(nanoseconds(items, &by_second));
+    }
+    let (library, second) = (Times::of(library), Times::of(second));
+    print!("{name:>28}");
+    library.print();
+    second.print();
+    library.against(second).print();
+    library.a_second().print();
+    println!();
+}
+
+fn nanoseconds(items: &[Item], call: impl Fn(&Item)) -> f64 {
+    let all = || black_box(items).iter().for_each(&call);
+    time(REPEATS, all) * 1e3 / items.len() as f64
+}
