@@ -1,0 +1,81 @@
+-- Widths and places of the optional fields. Assumes nothing.
+use mathlib.Core.Path.{_≡_, refl, sym, ap, _∙_}
+use mathlib.Core.Logic.{_⊎_, inl, inr}
+use mathlib.Core.List.{List, [], _∷_}
+use Prim.Native.Nat.{ℕ, zero, suc, _+_, _*_, _/_, _%_, _^_, _≤_, _<_}
+use native.Mathlib.Nat.{mod-lt, zero-lt-suc, zero-mul, one-mul}
+use native.Mathlib.Numerals.{add-one}
+use native.Mathlib.Omega.{arith}
+use lib.ListN.{getD}
+use lib.Pow.{shr-shr}
+use Rattle.wire.specs.Bytes.{leOf, numberAt}
+use Rattle.time_log.specs.Layout.{mark, width, partWidth, placeOf}
+
+-- a width is 0, 1, 2 or 4
+pub record Narrow (w : ℕ) : Type 0 where
+  pub small : w ≤ 4
+  pub even : 2 < w → w ≡ 4
+
+pub width-narrow : (k : ℕ) → Narrow (width k)
+width-narrow zero = record { small = omega arith; even = λ h. refl }
+width-narrow (suc zero) = record { small = omega arith; even = λ h. refl }
+width-narrow (suc (suc zero)) = record { small = omega arith; even = λ h. refl }
+width-narrow (suc (suc (suc zero))) = record { small = omega arith; even = λ h. absurd (omega (arith, h)) }
+width-narrow (suc (suc (suc (suc zero)))) = record { small = omega arith; even = λ h. absurd (omega (arith, h)) }
+width-narrow (suc (suc (suc (suc (suc zero))))) = record { small = omega arith; even = λ h. absurd (omega (arith, h)) }
+width-narrow (suc (suc (suc (suc (suc (suc zero)))))) = record { small = omega arith; even = λ h. absurd (omega (arith, h)) }
+width-narrow (suc (suc (suc (suc (suc (suc (suc zero))))))) = record { small = omega arith; even = λ h. refl }
+width-narrow (suc (suc (suc (suc (suc (suc (suc (suc zero)))))))) = record { small = omega arith; even = λ h. absurd (omega (arith, h)) }
+width-narrow (suc (suc (suc (suc (suc (suc (suc (suc (suc k))))))))) = record { small = omega arith; even = λ h. absurd (omega (arith, h)) }
+
+-- a bit times a width is nothing or the width
+pub bit-times : (b w : ℕ) → b < 2 → (b * w ≡ 0) ⊎ (b * w ≡ w)
+bit-times zero w h = inl (zero-mul w)
+bit-times (suc zero) w h = inr (one-mul w)
+bit-times (suc (suc b)) w h = absurd (omega (arith, h))
+
+pub part-is : (layout k : ℕ) → (partWidth layout k ≡ 0) ⊎ (partWidth layout k ≡ width k)
+unfolding partWidth
+part-is layout k = bit-times (mark layout k) (width k) (mod-lt _ (zero-lt-suc 1))
+
+pub product-small : (b k : ℕ) → b % 2 * width k ≤ 4
+product-small b k = go (bit-times (b % 2) (width k) (mod-lt b (zero-lt-suc 1)))
+  where
+    go : (b % 2 * width k ≡ 0) ⊎ (b % 2 * width k ≡ width k) → b % 2 * width k ≤ 4
+    go (inl e) = omega (arith, e)
+    go (inr e) = omega (arith, e, width-narrow k .small)
+
+pub part-narrow : (layout k : ℕ) → (partWidth layout k ≤ width k) × (2 < partWidth layout k → partWidth layout k ≡ 4)
+part-narrow layout k = go (part-is layout k)
+  where
+    go : (partWidth layout k ≡ 0) ⊎ (partWidth layout k ≡ width k) → (partWidth layout k ≤ width k) × (2 < partWidth layout k → partWidth layout k ≡ 4)
+    go (inl e) = (omega (arith, e), λ h. absurd (omega (arith, e, h)))
+    go (inr e) = (omega (arith, e), λ h. e ∙ width-narrow k .even (omega (arith, e, h)))
+
+pub place-small : (layout k : ℕ) → placeOf layout k ≤ 6 + 4 * k
+unfolding placeOf
+place-small layout zero = omega arith
+place-small layout (suc k) = omega (arith, place-small layout k, part-narrow layout k .0, width-narrow k .small)
+
+-- a turn of the loop that adds up the widths
+pub place-step : (layout k rest : ℕ) → rest ≡ layout / 2 ^ k → placeOf layout k + rest % 2 * width k ≡ placeOf layout (k + 1)
+unfolding placeOf partWidth
+place-step layout k rest e = rw (add-one k, e)
+
+pub part-step : (layout k rest : ℕ) → rest ≡ layout / 2 ^ k → rest % 2 * width k ≡ partWidth layout k
+unfolding partWidth
+part-step layout k rest e = rw e
+
+pub halved : (layout k rest : ℕ) → rest ≡ layout / 2 ^ k → rest / 2 ≡ layout / 2 ^ (k + 1)
+halved layout k rest e = rw e (shr-shr layout k 1)
+
+pub first-place : (layout : ℕ) → 6 ≡ placeOf layout 0
+unfolding placeOf
+first-place layout = refl
+
+pub part-full : (layout k : ℕ) → (partWidth layout k ≡ 0 → ⊥) → partWidth layout k ≡ width k
+part-full layout k n = go (part-is layout k)
+  where
+    go : (partWidth layout k ≡ 0) ⊎ (partWidth layout k ≡ width k) → partWidth layout k ≡ width k
+    go (inl e) = absurd (n e)
+    go (inr e) = e

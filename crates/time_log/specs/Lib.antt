@@ -1,0 +1,4 @@
+-- What the contracts of `time_log` cite, in the order to read it.
+pub mod Layout
+pub mod Record
+pub mod Judging

@@ -1,0 +1,211 @@
+// Log records: time and position, the fields that a layout marks, and log values by their ordinals.
+ghost use mathlib.Core.Path.{_≡_};
+ghost use mathlib.Core.Bool.{cond};
+ghost use Prim.Native.Nat.{ℕ, _+_, _*_, _^_, _≤_, _<_};
+ghost use lib.Dec.{ltb};
+ghost use lib.IntN.{natAbs};
+ghost use lib.ListN.{length};
+ghost use Rattle.wire.specs.Bytes.{signedOf};
+ghost use Rattle.time_log.specs.Layout.{marksSet, width, partWidth, placeOf};
+ghost use Rattle.time_log.specs.Record.{partAt, signedAt, fieldsAt, spaced};
+ghost use Rattle.time_log.specs.Judging.{knownStatus, anyOver, fieldsRefusal, recordRefusal};
+
+// A record's fields. One that the layout does not mark is 0.
+pub struct Fields {
+    pub time: u32,
+    pub days: u16,
+    pub north: i32,
+    pub east: i32,
+    pub up: i32,
+    pub status: u8,
+    pub pdop: u16,
+    pub hdop: u16,
+    pub satellites: u8,
+    pub gps_time: u32,
+    pub gps_date: u16,
+}
+
+// Refusal 47, or 0 and the number of optional fields.
+pub struct Marks {
+    pub number: u32,
+    pub count: u32,
+}
+
+pub fn optional_fields(layout: u16) -> Marks
+    ensures { λ r. ⌜ (r .number ≡ cond (ltb 511 layout) 47 0) × (r .count ≡ cond (ltb 511 layout) 0 (marksSet layout)) ⌝ }
+{
+    if 511 < layout {
+        return Marks {
+            number: 47,
+            count: 0,
+        };
+    }
+    Marks {
+        number: 0,
+        count: u16::count_ones(layout),
+    }
+}
+
+fn width_of(k: usize) -> usize
+    ensures { λ r. ⌜ r ≡ width k ⌝ }
+{
+    let widths = [4usize, 4, 4, 1, 2, 2, 1, 4, 2];
+    if k < 9 {
+        return widths[k];
+    }
+    0
+}
+
+// Where an optional field stands, and its bytes: 0 where it is absent. Field 9 is the count byte's place.
+struct Part {
+    at: usize,
+    width: usize,
+}
+
+fn place(layout: u16, k: usize) -> Part
+    requires { ⌜ k ≤ 9 ⌝ }
+    ensures { λ r. ⌜ (r .at ≡ placeOf layout k) × (r .width ≡ partWidth layout k) ⌝ }
+{
+    let mut at = 6usize;
+    let mut rest = layout as usize;
+    let mut i = 0usize;
+    while i < k {
+        at += rest % 2 * width_of(i);
+        rest = rest / 2;
+        i += 1;
+    }
+    Part {
+        at,
+        width: rest % 2 * width_of(k),
+    }
+}
+
+// An optional field as a number.
+fn part_number(bytes: &[u8], layout: u16, k: usize) -> u32
+    requires { ⌜ k ≤ 9 ⌝ }
+    ensures { λ r. ⌜ (r ≡ partAt layout (now (bytes .entry)) k) × (r < 256 ^ width k) ⌝ }
+{
+    let found = place(layout, k);
+    if found.width == 0 {
+        return 0;
+    }
+    if found.width == 1 {
+        return wire::read_u8(bytes, found.at) as u32;
+    }
+    if found.width == 2 {
+        return wire::read_u16(bytes, found.at) as u32;
+    }
+    wire::read_u32(bytes, found.at)
+}
+
+// An optional field of four bytes as a signed number.
+fn part_signed(bytes: &[u8], layout: u16, k: usize) -> i32
+    requires { ⌜ (k ≤ 9) × (width k ≡ 4) ⌝ }
+    ensures { λ r. ⌜ r ≡ signedAt layout (now (bytes .entry)) k ⌝ }
+{
+    let found = place(layout, k);
+    if found.width == 0 {
+        return 0;
+    }
+    wire::read_i32(bytes, found.at)
+}
+
+fn fields_of(bytes: &[u8], layout: u16) -> Fields
+    ensures { λ r. ⌜ r ≡ fieldsAt layout (now (bytes .entry)) ⌝ }
+{
+    let time = wire::read_u32(bytes, 0);
+    let days = wire::read_u16(bytes, 4);
+    let north = part_signed(bytes, layout, 0);
+    let east = part_signed(bytes, layout, 1);
+    let up = part_signed(bytes, layout, 2);
+    let status = part_number(bytes, layout, 3) as u8;
+    let pdop = part_number(bytes, layout, 4) as u16;
+    let hdop = part_number(bytes, layout, 5) as u16;
+    let satellites = part_number(bytes, layout, 6) as u8;
+    let gps_time = part_number(bytes, layout, 7);
+    let gps_date = part_number(bytes, layout, 8) as u16;
+    Fields {
+        time,
+        days,
+        north,
+        east,
+        up,
+        status,
+        pdop,
+        hdop,
+        satellites,
+        gps_time,
+        gps_date,
+    }
+}
+
+fn magnitude(z: i32) -> u32
+    ensures { λ r. ⌜ r ≡ natAbs z ⌝ }
+{
+    if z < 0 {
+        return (-1 - z) as u32 + 1;
+    }
+    z as u32
+}
+
+fn known_status(status: u8) -> bool
+    ensures { λ r. ⌜ r ≡ knownStatus status ⌝ }
+{
+    (status <= 8) | ((14 <= status) & (status <= 15))
+}
+
+// Whether one of n ordinals, each so many bytes behind the last, is not below the count of log values.
+fn any_over(s: &[u8], at: usize, step: usize, n: usize, logged: usize) -> bool
+    requires { ⌜ (step ≤ 5) × (at + 5 * n < 2 ^ 64) ⌝ }
+    ensures { λ r. ⌜ r ≡ anyOver logged (spaced step n (now (s .entry)) at) ⌝ }
+{
+    let mut p = at;
+    let mut left = n;
+    while 0 < left {
+        if logged <= wire::read_u8(s, p) as usize {
+            return true;
+        }
+        p += step;
+        left -= 1;
+    }
+    false
+}
+
+fn fields_refusal(fields: Fields, over: bool) -> u32
+    ensures { λ r. ⌜ r ≡ fieldsRefusal fields over ⌝ }
+{
+    if 86399999 < fields.time {
+        return 41;
+    }
+    if 900000000 < magnitude(fields.north) {
+        return 42;
+    }
+    if 1800000000 < magnitude(fields.east) {
+        return 43;
+    }
+    if !known_status(fields.status) {
+        return 44;
+    }
+    if over {
+        return 45;
+    }
+    0
+}
+
+fn refusal(bytes: &[u8], layout: u16, logged: usize) -> u32
+    ensures { λ r. ⌜ r ≡ recordRefusal layout logged (now (bytes .entry)) ⌝ }
+{
+    if 511 < layout {
+        return 47;
+    }
+    let at = place(layout, 9).at;
+    if bytes.len() <= at {
+        return 40;
+    }
+    let n = wire::read_u8(bytes, at) as usize;
+    if bytes.len() < at + 1 + 5 * n {
+        return 40;
+    }
+    let over = any_over(bytes, at + 1, 5, n, logged);
+    fields_refusal(fields_of(bytes, layout), over)
+}
