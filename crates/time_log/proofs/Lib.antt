@@ -4,3 +4,4 @@ pub mod Parts
 pub mod Sizes
 pub mod Runs
 pub mod Numbers
+pub mod Answers

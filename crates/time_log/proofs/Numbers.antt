@@ -11,7 +11,7 @@ use lib.IntN.{pos}
 use Rattle.wire.specs.Bytes.{leOf, numberAt, signedOf}
 use Rattle.wire.proofs.Width.{narrower, positive}
 use Rattle.time_log.specs.Layout.{width, partWidth, placeOf}
-use Rattle.time_log.specs.Record.{partAt, signedAt}
+use Rattle.time_log.specs.Contents.{partAt, signedAt}
 use Rattle.time_log.proofs.Parts.{part-narrow}
 
 -- one byte

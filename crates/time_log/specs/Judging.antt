@@ -6,7 +6,7 @@ use lib.Dec.{leb, ltb}
 use lib.IntN.{ℤ, natAbs}
 use lib.ListN.{length}
 use Rattle.time_log.specs.Layout.{placeOf, recordLength}
-use Rattle.time_log.specs.Record.{fieldsAt, countAt, ordinalsAt}
+use Rattle.time_log.specs.Contents.{fieldsAt, countAt, ordinalsAt}
 use Rattle.time_log.specs.declared.Fields.{Fields}
 
 -- a status is 0 to 8, 14 or 15

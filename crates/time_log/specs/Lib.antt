@@ -1,4 +1,5 @@
 -- What the contracts of `time_log` cite, in the order to read it.
 pub mod Layout
-pub mod Record
+pub mod Contents
 pub mod Judging
+pub mod Reading

@@ -5,10 +5,12 @@ ghost use Prim.Native.Nat.{ℕ, _+_, _*_, _^_, _≤_, _<_};
 ghost use lib.Dec.{ltb};
 ghost use lib.IntN.{natAbs};
 ghost use lib.ListN.{length};
+ghost use lib.Seq.{sets};
 ghost use Rattle.wire.specs.Bytes.{signedOf};
 ghost use Rattle.time_log.specs.Layout.{marksSet, width, partWidth, placeOf};
-ghost use Rattle.time_log.specs.Record.{partAt, signedAt, fieldsAt, spaced};
+ghost use Rattle.time_log.specs.Contents.{partAt, signedAt, fieldsAt, spaced, signedFrom};
 ghost use Rattle.time_log.specs.Judging.{knownStatus, anyOver, fieldsRefusal, recordRefusal};
+ghost use Rattle.time_log.specs.Reading.{refusedBy, readOf, ordinalsAfter, valuesAfter};
 
 // A record's fields. One that the layout does not mark is 0.
 pub struct Fields {
@@ -208,4 +210,92 @@ fn refusal(bytes: &[u8], layout: u16, logged: usize) -> u32
     }
     let over = any_over(bytes, at + 1, 5, n, logged);
     fields_refusal(fields_of(bytes, layout), over)
+}
+
+// What reading a record gives: number 0 with its length, its count of values and its fields, or a refusal with zeros.
+pub struct Record {
+    pub number: u32,
+    pub length: usize,
+    pub count: usize,
+    pub fields: Fields,
+}
+
+fn refused(number: u32) -> Record
+    ensures { λ r. ⌜ r ≡ refusedBy number ⌝ }
+{
+    let fields = Fields {
+        time: 0,
+        days: 0,
+        north: 0,
+        east: 0,
+        up: 0,
+        status: 0,
+        pdop: 0,
+        hdop: 0,
+        satellites: 0,
+        gps_time: 0,
+        gps_date: 0,
+    };
+    Record {
+        number,
+        length: 0,
+        count: 0,
+        fields,
+    }
+}
+
+fn fill_ordinals(bytes: &[u8], at: usize, ordinals: &mut [u8], n: usize)
+    requires { ⌜ (n ≤ length (now ordinals)) × (at + 5 * n < 2 ^ 64) ⌝ }
+    ensures { λ _. ⌜ now (ordinals .exit) ≡ sets (now (ordinals .entry)) 0 (spaced 5 n (now (bytes .entry)) at) ⌝ }
+{
+    let mut p = at;
+    let mut i = 0usize;
+    while i < n {
+        ordinals[i] = wire::read_u8(bytes, p);
+        p += 5;
+        i += 1;
+    }
+}
+
+fn fill_values(bytes: &[u8], at: usize, values: &mut [i32], n: usize)
+    requires { ⌜ (n ≤ length (now values)) × (n ≤ 255) × (at + 5 * n < 2 ^ 64) ⌝ }
+    ensures { λ _. ⌜ now (values .exit) ≡ sets (now (values .entry)) 0 (signedFrom n (now (bytes .entry)) at) ⌝ }
+{
+    let mut p = at;
+    let mut i = 0usize;
+    while i < n {
+        values[i] = wire::read_i32(bytes, p);
+        p += 5;
+        i += 1;
+    }
+}
+
+// Reads the record that the bytes start with; those behind it do not matter.
+pub fn read_record(
+    bytes: &[u8],
+    layout: u16,
+    logged: usize,
+    ordinals: &mut [u8],
+    values: &mut [i32],
+) -> Record
+    ensures { λ r. ⌜ (r ≡ readOf layout logged (now (bytes .entry)) (length (now (ordinals .entry))) (length (now (values .entry)))) × (now (ordinals .exit) ≡ ordinalsAfter layout logged (now (bytes .entry)) (now (ordinals .entry)) (now (values .entry))) × (now (values .exit) ≡ valuesAfter layout logged (now (bytes .entry)) (now (ordinals .entry)) (now (values .entry))) ⌝ }
+{
+    let number = refusal(bytes, layout, logged);
+    if number != 0 {
+        return refused(number);
+    }
+    let at = place(layout, 9).at;
+    let n = wire::read_u8(bytes, at) as usize;
+    if (ordinals.len() < n) | (values.len() < n) {
+        return refused(46);
+    }
+    fill_ordinals(bytes, at + 1, ordinals, n);
+    fill_values(bytes, at + 2, values, n);
+    let fields = fields_of(bytes, layout);
+    Record {
+        number: 0,
+        length: at + 1 + 5 * n,
+        count: n,
+        fields,
+    }
 }

@@ -3,7 +3,7 @@ use mathlib.Core.Path.{_≡_, refl, sym, ap, _∙_}
 use Prim.Native.Nat.{ℕ, _+_, _*_, _-_, _≤_, _<_}
 use native.Mathlib.Omega.{arith}
 use borrow.Author.Needs.{needs}
-use Rattle.time_log.specs.Record.{spaced}
+use Rattle.time_log.specs.Contents.{spaced}
 use Rattle.time_log.specs.Judging.{anyOver}
 use Rattle.time_log.proofs.Runs.{over-none, over-here, over-next}
 use Rattle.time_log.proofs.any_over.Statement.{statement}
