@@ -5,3 +5,6 @@ pub mod Sizes
 pub mod Runs
 pub mod Numbers
 pub mod Answers
+pub mod Prefix
+pub mod Walks
+pub mod Divided

@@ -3,7 +3,7 @@ use mathlib.Core.Path.{_≡_, refl, sym, ap, _∙_}
 use mathlib.Core.Logic.{_⊎_, inl, inr}
 use mathlib.Core.List.{List, [], _∷_}
 use Prim.Native.Nat.{ℕ, zero, suc, _+_, _*_, _/_, _%_, _^_, _≤_, _<_}
-use native.Mathlib.Nat.{mod-lt, zero-lt-suc, zero-mul, one-mul}
+use native.Mathlib.Nat.{mod-lt, zero-lt-suc, zero-add, zero-mul, one-mul}
 use native.Mathlib.Numerals.{add-one}
 use native.Mathlib.Omega.{arith}
 use lib.ListN.{getD}
@@ -79,3 +79,18 @@ part-full layout k n = go (part-is layout k)
     go : (partWidth layout k ≡ 0) ⊎ (partWidth layout k ≡ width k) → partWidth layout k ≡ width k
     go (inl e) = absurd (n e)
     go (inr e) = e
+
+-- places rise from 6 on
+pub place-large : (layout k : ℕ) → 6 ≤ placeOf layout k
+unfolding placeOf
+place-large layout zero = omega arith
+place-large layout (suc k) = omega (arith, place-large layout k)
+
+pub places-rise : (layout k j : ℕ) → placeOf layout k ≤ placeOf layout (j + k)
+unfolding placeOf
+places-rise layout k zero = rw (zero-add k) (omega arith)
+places-rise layout k (suc j) = let e : suc j + k ≡ suc (j + k) = omega arith in rw e (omega (arith, places-rise layout k j))
+
+pub part-inside : (layout k j : ℕ) → placeOf layout k + partWidth layout k ≤ placeOf layout (j + suc k)
+unfolding placeOf
+part-inside layout k j = places-rise layout (suc k) j

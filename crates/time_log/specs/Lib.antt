@@ -3,3 +3,5 @@ pub mod Layout
 pub mod Contents
 pub mod Judging
 pub mod Reading
+pub mod Logs
+pub mod Joined

@@ -11,6 +11,8 @@ ghost use Rattle.time_log.specs.Layout.{marksSet, width, partWidth, plac
 ghost use Rattle.time_log.specs.Contents.{partAt, signedAt, fieldsAt, spaced, signedFrom};
 ghost use Rattle.time_log.specs.Judging.{knownStatus, anyOver, fieldsRefusal, recordRefusal};
 ghost use Rattle.time_log.specs.Reading.{refusedBy, readOf, ordinalsAfter, valuesAfter};
+ghost use Rattle.time_log.specs.Logs.{extentOf, badLog, wholeLog, logOf};
+ghost use Rattle.time_log.specs.Joined.{LogsAreRecords};
 
 // A record's fields. One that the layout does not mark is 0.
 pub struct Fields {
@@ -299,3 +301,55 @@ pub fn read_record(
         fields,
     }
 }
+
+// What reading a log gives: number 0 and the count of its records, or a refusal and its record's start.
+pub struct Log {
+    pub number: u32,
+    pub count: usize,
+    pub start: usize,
+}
+
+fn record_extent(bytes: &[u8], layout: u16) -> usize
+    ensures { λ r. ⌜ r ≡ extentOf layout (now (bytes .entry)) ⌝ }
+{
+    let at = place(layout, 9).at;
+    at + 1 + 5 * wire::read_u8(bytes, at) as usize
+}
+
+// Reads the records to the end of the bytes.
+pub fn read_log(bytes: &[u8], layout: u16, logged: usize) -> Log
+    ensures { λ r. ⌜ r ≡ logOf layout logged (now (bytes .entry)) ⌝ }
+{
+    if 511 < layout {
+        return Log {
+            number: 47,
+            count: 0,
+            start: 0,
+        };
+    }
+    let mut at = 0usize;
+    let mut n = 0usize;
+    while at < bytes.len() {
+        let rest = &bytes[at..];
+        let number = refusal(rest, layout, logged);
+        if number != 0 {
+            return Log {
+                number,
+                count: 0,
+                start: at,
+            };
+        }
+        at += record_extent(rest, layout);
+        n += 1;
+    }
+    Log {
+        number: 0,
+        count: n,
+        start: 0,
+    }
+}
+
+// A log is read exactly where it is records joined. The function does nothing: its contract is the claim, so that the report names it.
+pub fn logs_are_records()
+    ensures { λ _. ⌜ LogsAreRecords ⌝ }
+{}
