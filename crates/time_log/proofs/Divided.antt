@@ -1,18 +1,17 @@
 -- A log is read whole exactly where it is records joined. Assumes nothing.
 use mathlib.Core.Path.{_≡_, refl, sym, ap, _∙_}
 use mathlib.Core.Bool.{Bool, true, false}
-use mathlib.Core.Logic.{_↔_}
 use mathlib.Core.List.{List, [], _∷_, _++_}
 use Prim.Native.Nat.{ℕ, zero, suc, _+_, _-_, _≤_, _<_}
 use native.Mathlib.Omega.{arith}
 use borrow.Author.Tests.{eqb-true, eqb-false, le-ltb}
 use lib.Dec.{eqb}
-use lib.ListN.{length, getD, take, drop, length-append, length-drop, take-append-drop}
+use lib.ListN.{length, take, drop, length-append, length-drop, take-append-drop}
 use lib.Seq.{length-take-le, getD-take, drop-append-seam}
 use Rattle.time_log.specs.Layout.{placeOf, recordLength}
 use Rattle.time_log.specs.Contents.{countAt}
 use Rattle.time_log.specs.Judging.{recordRefusal}
-use Rattle.time_log.specs.Logs.{extentOf, wholeLog, badLog, walk, logOf}
+use Rattle.time_log.specs.Logs.{extentOf, wholeLog, walk, logOf}
 use Rattle.time_log.specs.Joined.{OneRecord, AllRecords, joined, Records, LogsAreRecords}
 use Rattle.time_log.specs.declared.Log.{Log}
 use Rattle.time_log.proofs.Prefix.{granted, extent-same, refusal-more, refusal-less}

@@ -8,3 +8,6 @@ pub mod Answers
 pub mod Prefix
 pub mod Walks
 pub mod Divided
+pub mod Laying
+pub mod Outcomes
+pub mod Backward

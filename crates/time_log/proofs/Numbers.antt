@@ -1,17 +1,17 @@
 -- An optional field as a number of its width. Assumes nothing.
-use mathlib.Core.Path.{_≡_, refl, sym, ap, _∙_}
+use mathlib.Core.Path.{_≡_, refl, ap, _∙_}
 use mathlib.Core.List.{List, [], _∷_}
-use Prim.Native.Nat.{ℕ, zero, suc, _+_, _*_, _^_, _≤_, _<_}
+use Prim.Native.Nat.{ℕ, _^_, _<_}
 use native.Mathlib.Nat.{lt-of-lt-of-le}
 use native.Mathlib.Omega.{arith}
-use lib.ListN.{length, getD, take, drop}
+use lib.ListN.{getD, take, drop}
 use lib.Seq.{getD-drop}
 use native.Mathlib.Nat.{add-zero}
 use lib.IntN.{pos}
 use Rattle.wire.specs.Bytes.{leOf, numberAt, signedOf}
-use Rattle.wire.proofs.Width.{narrower, positive}
+use Rattle.wire.proofs.Width.{narrower}
 use Rattle.time_log.specs.Layout.{width, partWidth, placeOf}
-use Rattle.time_log.specs.Contents.{partAt, signedAt}
+use Rattle.time_log.specs.Contents.{partAt}
 use Rattle.time_log.proofs.Parts.{part-narrow}
 
 -- one byte

@@ -1,15 +1,14 @@
 -- Bytes behind a record do not matter to it. Assumes nothing.
-use mathlib.Core.Path.{_≡_, refl, sym, ap, _∙_}
+use mathlib.Core.Path.{_≡_, refl, ap, _∙_}
 use mathlib.Core.Bool.{Bool, true, false, cond}
-use mathlib.Core.List.{List, [], _∷_, _++_}
+use mathlib.Core.List.{List, _++_}
 use Prim.Native.Nat.{ℕ, zero, suc, _+_, _*_, _≤_, _<_}
 use native.Mathlib.Omega.{arith}
-use borrow.Author.Tests.{lt-ltb, le-ltb, le-leb, lt-leb, ltb-false, leb-false}
+use borrow.Author.Tests.{le-ltb, lt-leb, ltb-false, leb-false}
 use lib.Dec.{ltb, leb}
-use lib.IntN.{ℤ}
-use lib.ListN.{length, getD, take, drop, length-append, length-drop, List·getD-append}
+use lib.ListN.{length, take, drop, length-append, length-drop, List·getD-append}
 use lib.Seq.{take-append-le, drop-append-le}
-use Rattle.wire.specs.Bytes.{leOf, numberAt, signedOf}
+use Rattle.wire.specs.Bytes.{leOf, numberAt}
 use Rattle.time_log.specs.Layout.{partWidth, placeOf, recordLength}
 use Rattle.time_log.specs.Contents.{partAt, fieldsAt, countAt, spaced, signedFrom, ordinalsAt, valuesAt}
 use Rattle.time_log.specs.Judging.{anyOver, fieldsRefusal, recordRefusal}

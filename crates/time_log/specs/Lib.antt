@@ -5,3 +5,5 @@ pub mod Judging
 pub mod Reading
 pub mod Logs
 pub mod Joined
+pub mod Writing
+pub mod Back

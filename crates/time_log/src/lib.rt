@@ -1,18 +1,20 @@
 // Log records: time and position, the fields that a layout marks, and log values by their ordinals.
 ghost use mathlib.Core.Path.{_≡_};
 ghost use mathlib.Core.Bool.{cond};
-ghost use Prim.Native.Nat.{ℕ, _+_, _*_, _^_, _≤_, _<_};
+ghost use Prim.Native.Nat.{_+_, _*_, _^_, _≤_, _<_};
 ghost use lib.Dec.{ltb};
 ghost use lib.IntN.{natAbs};
 ghost use lib.ListN.{length};
 ghost use lib.Seq.{sets};
-ghost use Rattle.wire.specs.Bytes.{signedOf};
-ghost use Rattle.time_log.specs.Layout.{marksSet, width, partWidth, placeOf};
+ghost use Rattle.wire.specs.Bytes.{bytesOf, bitsOf};
+ghost use Rattle.time_log.specs.Layout.{marksSet, width, partWidth, placeOf, recordLength};
 ghost use Rattle.time_log.specs.Contents.{partAt, signedAt, fieldsAt, spaced, signedFrom};
 ghost use Rattle.time_log.specs.Judging.{knownStatus, anyOver, fieldsRefusal, recordRefusal};
 ghost use Rattle.time_log.specs.Reading.{refusedBy, readOf, ordinalsAfter, valuesAfter};
-ghost use Rattle.time_log.specs.Logs.{extentOf, badLog, wholeLog, logOf};
+ghost use Rattle.time_log.specs.Logs.{extentOf, logOf};
 ghost use Rattle.time_log.specs.Joined.{LogsAreRecords};
+ghost use Rattle.time_log.specs.Writing.{keptNumber, keptSigned, keptFields, bytesBefore, pairsFrom, writeRefusal, writtenAs, bytesAfter};
+ghost use Rattle.time_log.specs.Back.{ReadsBack};
 
 // A record's fields. One that the layout does not mark is 0.
 pub struct Fields {
@@ -352,4 +354,171 @@ pub fn read_log(bytes: &[u8], layout: u16, logged: usize) -> Log
 // A log is read exactly where it is records joined. The function does nothing: its contract is the claim, so that the report names it.
 pub fn logs_are_records()
     ensures { λ _. ⌜ LogsAreRecords ⌝ }
+{}
+
+// What writing a record gives: number 0 and its length, or a refusal and 0.
+pub struct Written {
+    pub number: u32,
+    pub length: usize,
+}
+
+fn kept_number(layout: u16, k: usize, x: u32) -> u32
+    requires { ⌜ k ≤ 9 ⌝ }
+    ensures { λ r. ⌜ (r ≡ keptNumber layout k x) × (r ≤ x) ⌝ }
+{
+    if place(layout, k).width == 0 {
+        return 0;
+    }
+    x
+}
+
+fn kept_signed(layout: u16, k: usize, z: i32) -> i32
+    requires { ⌜ k ≤ 9 ⌝ }
+    ensures { λ r. ⌜ r ≡ keptSigned layout k z ⌝ }
+{
+    if place(layout, k).width == 0 {
+        return 0;
+    }
+    z
+}
+
+// The fields with 0 for those that the layout does not mark, which are then neither refused nor written.
+fn kept(layout: u16, fields: Fields) -> Fields
+    ensures { λ r. ⌜ r ≡ keptFields layout fields ⌝ }
+{
+    let north = kept_signed(layout, 0, fields.north);
+    let east = kept_signed(layout, 1, fields.east);
+    let up = kept_signed(layout, 2, fields.up);
+    let status = kept_number(layout, 3, fields.status as u32) as u8;
+    let pdop = kept_number(layout, 4, fields.pdop as u32) as u16;
+    let hdop = kept_number(layout, 5, fields.hdop as u32) as u16;
+    let satellites = kept_number(layout, 6, fields.satellites as u32) as u8;
+    let gps_time = kept_number(layout, 7, fields.gps_time);
+    let gps_date = kept_number(layout, 8, fields.gps_date as u32) as u16;
+    Fields {
+        time: fields.time,
+        days: fields.days,
+        north,
+        east,
+        up,
+        status,
+        pdop,
+        hdop,
+        satellites,
+        gps_time,
+        gps_date,
+    }
+}
+
+// Writes an optional field, where it is marked.
+fn put_part(to: &mut [u8], layout: u16, k: usize, x: u32)
+    requires { ⌜ (k ≤ 9) × (x < 256 ^ width k) × (placeOf layout k + partWidth layout k ≤ length (now to)) ⌝ }
+    ensures { λ _. ⌜ now (to .exit) ≡ sets (now (to .entry)) (placeOf layout k) (bytesOf (partWidth layout k) x) ⌝ }
+{
+    let found = place(layout, k);
+    let at = found.at;
+    if found.width == 0 {
+        return;
+    }
+    if found.width == 1 {
+        to[at] = x as u8;
+        return;
+    }
+    if found.width == 2 {
+        wire::write_u16(to, at, x as u16);
+        return;
+    }
+    wire::write_u32(to, at, x);
+}
+
+fn put_signed(to: &mut [u8], layout: u16, k: usize, z: i32)
+    requires { ⌜ (k ≤ 9) × (width k ≡ 4) × (placeOf layout k + partWidth layout k ≤ length (now to)) ⌝ }
+    ensures { λ _. ⌜ now (to .exit) ≡ sets (now (to .entry)) (placeOf layout k) (bytesOf (partWidth layout k) (bitsOf 4 z)) ⌝ }
+{
+    let found = place(layout, k);
+    if found.width == 0 {
+        return;
+    }
+    wire::write_i32(to, found.at, z);
+}
+
+// Writes the time, the days and the marked fields.
+fn put_fields(to: &mut [u8], layout: u16, fields: Fields)
+    requires { ⌜ placeOf layout 9 ≤ length (now to) ⌝ }
+    ensures { λ _. ⌜ now (to .exit) ≡ sets (now (to .entry)) 0 (bytesBefore layout fields 9) ⌝ }
+{
+    wire::write_u32(to, 0, fields.time);
+    wire::write_u16(to, 4, fields.days);
+    put_signed(to, layout, 0, fields.north);
+    put_signed(to, layout, 1, fields.east);
+    put_signed(to, layout, 2, fields.up);
+    put_part(to, layout, 3, fields.status as u32);
+    put_part(to, layout, 4, fields.pdop as u32);
+    put_part(to, layout, 5, fields.hdop as u32);
+    put_part(to, layout, 6, fields.satellites as u32);
+    put_part(to, layout, 7, fields.gps_time);
+    put_part(to, layout, 8, fields.gps_date as u32);
+}
+
+// Writes n ordinals, each with its value behind it.
+fn put_pairs(to: &mut [u8], at: usize, ordinals: &[u8], values: &[i32], n: usize)
+    requires { ⌜ (n ≤ 255) × (n ≤ length (now ordinals)) × (n ≤ length (now values)) × (at + 5 * n ≤ length (now to)) ⌝ }
+    ensures { λ _. ⌜ now (to .exit) ≡ sets (now (to .entry)) at (pairsFrom (now (ordinals .entry)) (now (values .entry)) 0 n) ⌝ }
+{
+    let mut p = at;
+    let mut i = 0usize;
+    while i < n {
+        to[p] = ordinals[i];
+        wire::write_i32(to, p + 1, values[i]);
+        p += 5;
+        i += 1;
+    }
+}
+
+// Writes a record of the first so many ordinals and values from the start of the bytes on.
+pub fn write_record(
+    to: &mut [u8],
+    layout: u16,
+    fields: Fields,
+    logged: usize,
+    ordinals: &[u8],
+    values: &[i32],
+    count: usize,
+) -> Written
+    ensures { λ r. ⌜ (r ≡ writtenAs (writeRefusal layout fields logged (now (ordinals .entry)) (now (values .entry)) count (length (now (to .entry)))) (recordLength layout count)) × (now (to .exit) ≡ bytesAfter (now (to .entry)) layout fields logged (now (ordinals .entry)) (now (values .entry)) count) ⌝ }
+{
+    if 511 < layout {
+        return Written {
+            number: 47,
+            length: 0,
+        };
+    }
+    if (255 < count) | ((ordinals.len() < count) | (values.len() < count)) {
+        return Written {
+            number: 48,
+            length: 0,
+        };
+    }
+    let written = kept(layout, fields);
+    let number = fields_refusal(written, any_over(ordinals, 0, 1, count, logged));
+    if number != 0 {
+        return Written { number, length: 0 };
+    }
+    let at = place(layout, 9).at;
+    let length = at + 1 + 5 * count;
+    if to.len() < length {
+        return Written {
+            number: 46,
+            length: 0,
+        };
+    }
+    put_fields(to, layout, written);
+    to[at] = count as u8;
+    put_pairs(to, at + 1, ordinals, values, count);
+    Written { number: 0, length }
+}
+
+// What is written reads back the same. The function does nothing: its contract is the claim, so that the report names it.
+pub fn records_read_back()
+    ensures { λ _. ⌜ ReadsBack ⌝ }
 {}

@@ -1,5 +1,5 @@
 -- `time_log::optional_fields` meets its contract: the ones of nine bits are the marks. Assumes nothing.
-use mathlib.Core.Path.{_≡_, refl}
+use mathlib.Core.Path.{refl}
 use native.Mathlib.Omega.{arith}
 use borrow.Author.Tests.{lt-ltb, le-ltb}
 use Rattle.time_log.proofs.Nine.{ones-are-marks}

@@ -1,6 +1,5 @@
 -- `time_log::part_number` meets its contract: the part is read in its width. Assumes nothing.
-use mathlib.Core.Path.{_≡_, refl, sym, ap, _∙_}
-use Prim.Native.Nat.{ℕ, _^_, _<_}
+use mathlib.Core.Path.{_≡_, sym, _∙_}
 use native.Mathlib.Omega.{arith}
 use Rattle.time_log.specs.Layout.{partWidth}
 use Rattle.time_log.proofs.Parts.{part-narrow}

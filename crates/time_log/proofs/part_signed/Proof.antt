@@ -1,7 +1,5 @@
 -- `time_log::part_signed` meets its contract: absent it is 0, and else it has four bytes. Assumes nothing.
 use mathlib.Core.Path.{_≡_, refl, sym, ap, _∙_}
-use Prim.Native.Nat.{ℕ, _<_}
-use native.Mathlib.Omega.{arith}
 use mir.Syntax.{w32}
 use mir.ValLaws.{toZ-ofZ}
 use Rattle.wire.specs.Bytes.{signedOf}

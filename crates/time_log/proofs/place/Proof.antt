@@ -1,10 +1,10 @@
 -- `time_log::place` meets its contract: the widths of the fields passed are added up, and the layout is halved. Assumes nothing.
-use mathlib.Core.Path.{_≡_, refl, sym, ap, _∙_}
-use Prim.Native.Nat.{ℕ, _+_, _*_, _-_, _/_, _%_, _^_, _≤_, _<_}
+use mathlib.Core.Path.{_≡_, sym, ap, _∙_}
+use Prim.Native.Nat.{ℕ, _-_, _/_, _^_, _≤_}
 use native.Mathlib.Nat.{div-one}
 use native.Mathlib.Omega.{arith}
 use borrow.Author.Needs.{needs}
-use Rattle.time_log.specs.Layout.{width, placeOf}
+use Rattle.time_log.specs.Layout.{placeOf}
 use Rattle.time_log.proofs.Parts.{product-small, place-small, place-step, part-step, halved, first-place}
 use Rattle.time_log.proofs.place.Statement.{statement}
 use Rattle.time_log.proofs.place.Tie as tie

@@ -1,6 +1,5 @@
 -- `time_log::read_record` meets its contract: each return is a case of the definition. Assumes nothing.
-use mathlib.Core.Path.{_≡_, refl, sym, ap, _∙_}
-use Prim.Native.Nat.{ℕ, _+_, _*_, _≤_, _<_}
+use mathlib.Core.Path.{sym, _∙_}
 use native.Mathlib.Omega.{arith}
 use Rattle.time_log.specs.Layout.{recordLength}
 use Rattle.time_log.proofs.Parts.{place-small}

@@ -1,6 +1,4 @@
 -- `time_log::record_extent` meets its contract: the count byte's place, and what follows it. Assumes nothing.
-use mathlib.Core.Path.{_≡_, refl, sym, ap, _∙_}
-use Prim.Native.Nat.{ℕ, _+_, _*_, _≤_, _<_}
 use native.Mathlib.Omega.{arith}
 use Rattle.time_log.specs.Layout.{recordLength}
 use Rattle.time_log.proofs.Parts.{place-small}

@@ -1,7 +1,4 @@
 -- `time_log::refusal` meets its contract: each return is a case of the definition. Assumes nothing.
-use mathlib.Core.Path.{_≡_, refl, sym, ap, _∙_}
-use Prim.Native.Nat.{ℕ, _+_, _*_, _≤_, _<_}
-use native.Mathlib.Omega.{arith}
 use borrow.Author.Tests.{lt-ltb, le-ltb, le-leb, lt-leb}
 use Rattle.time_log.specs.Layout.{recordLength}
 use Rattle.time_log.specs.Judging.{recordRefusal}

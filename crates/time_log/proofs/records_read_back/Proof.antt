@@ -1,0 +1,10 @@
+-- `time_log::records_read_back` meets its contract, which is the claim itself. Assumes nothing.
+use Rattle.time_log.proofs.Backward.{reads-back}
+use Rattle.time_log.proofs.records_read_back.Statement.{statement}
+use Rattle.time_log.proofs.records_read_back.Tie as tie
+
+returns : tie.Need-returns
+returns c = reads-back
+
+pub records-read-back-spec : {M : Type 1} → statement M
+records-read-back-spec = tie.close (tie.spec returns)
