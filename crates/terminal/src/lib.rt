@@ -3,6 +3,7 @@ use device::DeviceLabels;
 
 pub mod display;
 pub mod exchange;
+pub mod logs;
 pub mod sessions;
 
 ghost use mathlib.Core.Path.{_≡_};

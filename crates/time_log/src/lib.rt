@@ -17,6 +17,7 @@ ghost use Rattle.time_log.specs.Writing.{keptNumber, keptSigned, keptFie
 ghost use Rattle.time_log.specs.Back.{ReadsBack};
 
 // A record's fields. One that the layout does not mark is 0.
+#[repr(C)]
 pub struct Fields {
     pub time: u32,
     pub days: u16,
@@ -32,6 +33,7 @@ pub struct Fields {
 }
 
 // Refusal 47, or 0 and the number of optional fields.
+#[repr(C)]
 pub struct Marks {
     pub number: u32,
     pub count: u32,
@@ -217,6 +219,7 @@ fn refusal(bytes: &[u8], layout: u16, logged: usize) -> u32
 }
 
 // What reading a record gives: number 0 with its length, its count of values and its fields, or a refusal with zeros.
+#[repr(C)]
 pub struct Record {
     pub number: u32,
     pub length: usize,
@@ -305,6 +308,7 @@ pub fn read_record(
 }
 
 // What reading a log gives: number 0 and the count of its records, or a refusal and its record's start.
+#[repr(C)]
 pub struct Log {
     pub number: u32,
     pub count: usize,
@@ -357,6 +361,7 @@ pub fn logs_are_records()
 {}
 
 // What writing a record gives: number 0 and its length, or a refusal and 0.
+#[repr(C)]
 pub struct Written {
     pub number: u32,
     pub length: usize,
