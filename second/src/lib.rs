@@ -9,8 +9,10 @@ mod faults;
 mod fields;
 mod judging;
 mod lister;
+mod logs;
 mod messages;
 mod numbers;
+mod ordinals;
 mod pool;
 mod queries;
 mod rules;
@@ -22,6 +24,9 @@ pub use displayed::displayed;
 pub use faults::Fault;
 pub use judging::judge;
 pub use lister::list;
+pub use logs::{
+    optional_fields, read_log, read_record, write_record, LogFields, LogRecord, LogRefusal,
+};
 pub use messages::{read_message, write_acknowledge, write_value, Message};
 pub use pool::{read_pool, Kind, Record, Refusal, MAX_POOL_BYTES, MAX_RECORDS};
 pub use queries::{labels, text, Labels};

@@ -1,5 +1,5 @@
-//! Tests of checking, texts, labels, sessions, messages and displayed values
-//! through the public functions.
+//! Tests of checking, texts, labels, sessions, messages, displayed values and
+//! time logs through the public functions.
 
 mod buffers;
 mod chains;
@@ -8,6 +8,9 @@ mod displayed;
 mod judging;
 mod lists;
 mod literal;
+mod literal_logs;
+mod log_refusals;
+mod logs;
 mod messages;
 mod pools;
 mod queries;

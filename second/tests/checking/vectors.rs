@@ -1,4 +1,4 @@
-//! The lister's whole output for each test vector.
+//! The lister's whole output for each pool of the test vectors.
 
 use second::list;
 use std::fs;
@@ -18,7 +18,10 @@ fn every_vector_is_listed_whole() {
 }
 
 fn pool_files() -> Vec<PathBuf> {
-    let is_pool = |path: &Path| path.extension().is_some_and(|it| it == "hex");
+    let is_pool = |path: &Path| {
+        let name = path.file_name().unwrap().to_string_lossy();
+        name.starts_with("pool-") && name.ends_with(".hex")
+    };
     fs::read_dir(DIRECTORY)
         .unwrap()
         .map(|entry| entry.unwrap().path())
@@ -26,7 +29,7 @@ fn pool_files() -> Vec<PathBuf> {
         .collect()
 }
 
-fn parse_hex(text: &str) -> Vec<u8> {
+pub fn parse_hex(text: &str) -> Vec<u8> {
     text.lines()
         .filter(|line| !line.starts_with('#'))
         .flat_map(str::split_whitespace)
