@@ -1,5 +1,7 @@
 //! Memory that is lent to a call, between guards that are lent to nobody.
 
+use std::fmt::Display;
+
 /// Places of a guard.
 const GUARD: usize = 16;
 
@@ -68,44 +70,76 @@ impl LentPool {
     }
 }
 
-/// An area of bytes, which calls may change.
-pub struct LentArea {
-    memory: Vec<u8>,
+/// What an area is made of.
+pub trait Place: Copy + PartialEq + Display {
+    const NAME: &'static str;
+
+    /// One that no call writes by chance. Neighbours differ.
+    fn noise(index: usize) -> Self;
 }
 
-impl LentArea {
-    pub fn new(bytes: &[u8]) -> Self {
+impl Place for u8 {
+    const NAME: &'static str = "byte";
+
+    fn noise(index: usize) -> Self {
+        noise(index) as u8
+    }
+}
+
+impl Place for i32 {
+    const NAME: &'static str = "value";
+
+    fn noise(index: usize) -> Self {
+        i32::from(noise(2 * index)) << 16 | i32::from(noise(2 * index + 1))
+    }
+}
+
+/// An area of bytes or values. Calls may change it; where they may not, it is
+/// compared with one that was not lent.
+pub struct LentArea<T = u8> {
+    memory: Vec<T>,
+}
+
+impl<T: Place> LentArea<T> {
+    pub fn new(contents: &[T]) -> Self {
         LentArea {
-            memory: guarded(bytes),
+            memory: guarded(contents),
         }
     }
 
     /// The area without its guards.
-    pub fn bytes(&self) -> &[u8] {
+    pub fn contents(&self) -> &[T] {
         &self.memory[GUARD..self.memory.len() - GUARD]
     }
 
-    pub fn bytes_mut(&mut self) -> &mut [u8] {
+    pub fn contents_mut(&mut self) -> &mut [T] {
         let end = self.memory.len() - GUARD;
         &mut self.memory[GUARD..end]
     }
 
     /// Says where two areas of one length part, guards included.
-    pub fn parting(&self, name: &str, other: &LentArea) -> Option<String> {
+    pub fn parting(&self, name: &str, other: &LentArea<T>) -> Option<String> {
         if self.memory == other.memory {
             return None;
         }
         let mut pairs = self.memory.iter().zip(&other.memory);
         let at = pairs.position(|(ours, theirs)| ours != theirs)?;
-        let place = at as isize - GUARD as isize;
+        let (what, place) = (T::NAME, at as isize - GUARD as isize);
         let (ours, theirs) = (self.memory[at], other.memory[at]);
-        Some(format!("byte {place} of {name} is {ours} against {theirs}"))
+        Some(format!(
+            "{what} {place} of {name} is {ours} against {theirs}"
+        ))
     }
 }
 
-fn guarded(bytes: &[u8]) -> Vec<u8> {
-    let guard: Vec<u8> = (0..GUARD).map(|index| noise(index) as u8).collect();
-    [&guard, bytes, &guard].concat()
+fn guarded<T: Place>(contents: &[T]) -> Vec<T> {
+    let guard = untouched(GUARD);
+    [&guard, contents, &guard].concat()
+}
+
+/// So many places that no call writes by chance.
+pub fn untouched<T: Place>(length: usize) -> Vec<T> {
+    (0..length).map(T::noise).collect()
 }
 
 /// A number that no call writes by chance. Neighbours differ.
@@ -142,7 +176,7 @@ mod tests {
     #[test]
     fn a_changed_area_is_seen_wherever_it_is() {
         let area = LentArea::new(b"DVC");
-        assert_eq!(area.bytes(), b"DVC");
+        assert_eq!(area.contents(), b"DVC");
         assert_eq!(area.parting("area", &LentArea::new(b"DVC")), None);
         for at in 0..area.memory.len() {
             let mut changed = LentArea::new(b"DVC");
@@ -150,6 +184,21 @@ mod tests {
             let place = at as isize - GUARD as isize;
             let seen = changed.parting("area", &area).unwrap();
             assert!(seen.starts_with(&format!("byte {place} of area is ")));
+        }
+    }
+
+    #[test]
+    fn a_changed_value_is_seen_wherever_it_is() {
+        let values = [i32::MIN, 0, -1];
+        for at in 0..2 * GUARD + values.len() {
+            for bit in 0..32 {
+                let mut changed = LentArea::new(&values);
+                assert_eq!(changed.contents_mut(), values);
+                changed.memory[at] ^= 1 << bit;
+                let place = at as isize - GUARD as isize;
+                let seen = changed.parting("list", &LentArea::new(&values)).unwrap();
+                assert!(seen.starts_with(&format!("value {place} of list is ")));
+            }
         }
     }
 

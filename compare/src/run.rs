@@ -8,6 +8,7 @@ use crate::generated;
 use crate::input::{Input, Known};
 use crate::lent::LentPool;
 use crate::lister::Lister;
+use crate::part;
 use crate::queries::queries;
 use crate::sessions;
 use crate::tally::Tallies;
@@ -53,7 +54,7 @@ pub fn run(options: Options) -> io::Result<bool> {
     let texts = texts::compare(options.seed, options.pools);
     let sessions = sessions::compare(options.seed, options.lists, options.long);
     let exchange = exchange::compare(options.seed, options.pools)?;
-    Ok(run.report(&texts, &sessions, &exchange))
+    Ok(run.report(&texts, &sessions, &[exchange]))
 }
 
 struct Run {
@@ -177,12 +178,7 @@ impl Run {
         }
     }
 
-    fn report(
-        &self,
-        texts: &Report,
-        sessions: &sessions::Report,
-        exchange: &exchange::Report,
-    ) -> bool {
+    fn report(&self, texts: &Report, sessions: &sessions::Report, others: &[part::Report]) -> bool {
         self.tallies.print();
         self.census.print();
         println!("texts: {} compared, {} sound", texts.compared, texts.sound);
@@ -190,14 +186,14 @@ impl Run {
             println!("first text that differs: {}", hex(text));
         }
         sessions.print();
-        exchange.print();
-        let unseen = [
+        others.iter().for_each(part::Report::print);
+        let mut unseen = [
             self.tallies.unseen(),
             self.census.unseen(),
             sessions.unseen(),
-            exchange.unseen(),
         ]
         .concat();
+        unseen.extend(others.iter().flat_map(part::Report::unseen));
         for what in &unseen {
             println!("compare: {what} was never seen");
         }
@@ -205,9 +201,11 @@ impl Run {
             + texts.compared
             + sessions.lists
             + sessions.singles
-            + exchange.compared();
-        let differences =
-            self.differences + texts.differences + sessions.differences + exchange.differences();
+            + others.iter().map(part::Report::compared).sum::<u64>();
+        let differences = self.differences
+            + texts.differences
+            + sessions.differences
+            + others.iter().map(part::Report::differences).sum::<u64>();
         println!("compare: {inputs} inputs, {differences} differences");
         differences == 0 && unseen.is_empty()
     }

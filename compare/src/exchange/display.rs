@@ -1,10 +1,10 @@
 //! Displayed values against the second implementation's and against the
 //! product in whole numbers, bit by bit.
 
-use super::grid::Grid;
 use super::library::displayed;
-use super::Part;
+use crate::grid::Grid;
 use crate::objects::{GREATEST_SCALE, LEAST_SCALE};
+use crate::part::Part;
 use crate::random::Random;
 use std::ops::RangeInclusive;
 

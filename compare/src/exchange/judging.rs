@@ -1,15 +1,15 @@
 //! Commands judged by both sides, over pools of all kinds.
 
-use super::grid::Grid;
 use super::library::{Judgement, Order};
-use super::Part;
 use crate::accepted;
 use crate::calls::{by_library, by_second, compare as compare_calls};
 use crate::fixed::pool_q;
 use crate::generated;
+use crate::grid::Grid;
 use crate::lent::LentPool;
 use crate::library::ENTRY_WORDS;
 use crate::objects::{named, pool_of, Object, GREATEST_NUMBER};
+use crate::part::Part;
 use crate::random::Random;
 use crate::realistic::realistic;
 use crate::sessions::longest;

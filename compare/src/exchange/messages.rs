@@ -1,10 +1,10 @@
 //! Messages read and written by both sides.
 
-use super::grid::Grid;
 use super::library::{self, number_of, Fields};
 use super::vectors::{self, Asked, Line};
-use super::Part;
-use crate::lent::{noise, LentArea, LentPool};
+use crate::grid::Grid;
+use crate::lent::{untouched, LentArea, LentPool};
+use crate::part::Part;
 use crate::random::Random;
 use second::Message;
 use std::io;
@@ -259,9 +259,9 @@ fn read_back(part: &mut Part, message: Message, written: &[u8]) {
 /// The message's bytes or the number of the refusal, on which both sides
 /// agree, as on all memory around.
 fn write_by_both(message: Message, length: usize) -> Result<Result<Vec<u8>, u8>, String> {
-    let before: Vec<u8> = (0..length).map(|index| noise(index) as u8).collect();
+    let before: Vec<u8> = untouched(length);
     let (mut ours, mut theirs) = (LentArea::new(&before), LentArea::new(&before));
-    let (to, other) = (ours.bytes_mut(), theirs.bytes_mut());
+    let (to, other) = (ours.contents_mut(), theirs.contents_mut());
     let (library, second) = match message {
         Message::Value {
             command,
@@ -287,7 +287,7 @@ fn write_by_both(message: Message, length: usize) -> Result<Result<Vec<u8>, u8>,
     }
     match ours.parting("the message", &theirs) {
         Some(difference) => Err(difference),
-        None => Ok(second.map(|()| ours.bytes()[..MESSAGE_BYTES].to_vec())),
+        None => Ok(second.map(|()| ours.contents()[..MESSAGE_BYTES].to_vec())),
     }
 }
 

@@ -30,10 +30,10 @@ impl Call {
         let Areas { staging, kept } = areas;
         let mut table = Lent::default();
         let step = match self {
-            Call::Offer(size) => value.offer(*size, staging.bytes(), kept.bytes()),
+            Call::Offer(size) => value.offer(*size, staging.contents(), kept.contents()),
             Call::Transfer(piece) => {
                 let piece = LentPool::new(piece);
-                let step = value.transfer(piece.bytes(), staging.bytes_mut());
+                let step = value.transfer(piece.bytes(), staging.contents_mut());
                 if piece.is_changed() {
                     return Err("the piece was changed".into());
                 }
@@ -41,7 +41,7 @@ impl Call {
             }
             Call::Activate(words) => {
                 table = lent_table(&untouched(words / ENTRY_WORDS), *words);
-                value.activate(staging.bytes(), kept.bytes_mut(), table.words())
+                value.activate(staging.contents(), kept.contents_mut(), table.words())
             }
             Call::Deactivate => value.deactivate(),
             Call::Delete => value.delete(),
@@ -59,10 +59,10 @@ impl Call {
             Some(session) => {
                 let Areas { staging, kept } = areas;
                 Step::of(match self {
-                    Call::Offer(size) => session.offer(*size, staging.bytes(), kept.bytes()),
-                    Call::Transfer(piece) => session.transfer(piece, staging.bytes_mut()),
+                    Call::Offer(size) => session.offer(*size, staging.contents(), kept.contents()),
+                    Call::Transfer(piece) => session.transfer(piece, staging.contents_mut()),
                     Call::Activate(_) => {
-                        session.activate(staging.bytes(), kept.bytes_mut(), &mut table)
+                        session.activate(staging.contents(), kept.contents_mut(), &mut table)
                     }
                     Call::Deactivate => session.deactivate(),
                     Call::Delete => session.delete(),

@@ -25,11 +25,11 @@ impl Sides {
     }
 
     pub fn staging(&self) -> &[u8] {
-        self.library.staging.bytes()
+        self.library.staging.contents()
     }
 
     pub fn kept(&self) -> &[u8] {
-        self.library.kept.bytes()
+        self.library.kept.contents()
     }
 
     /// Has both sides make the call, and gives what both gave or where they
