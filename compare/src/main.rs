@@ -16,6 +16,7 @@ mod input;
 mod lent;
 mod library;
 mod lister;
+mod logs;
 mod objects;
 mod part;
 mod queries;

@@ -8,6 +8,7 @@ use crate::generated;
 use crate::input::{Input, Known};
 use crate::lent::LentPool;
 use crate::lister::Lister;
+use crate::logs;
 use crate::part;
 use crate::queries::queries;
 use crate::sessions;
@@ -54,7 +55,8 @@ pub fn run(options: Options) -> io::Result<bool> {
     let texts = texts::compare(options.seed, options.pools);
     let sessions = sessions::compare(options.seed, options.lists, options.long);
     let exchange = exchange::compare(options.seed, options.pools)?;
-    Ok(run.report(&texts, &sessions, &[exchange]))
+    let logs = logs::compare(options.seed, options.pools)?;
+    Ok(run.report(&texts, &sessions, &[exchange, logs]))
 }
 
 struct Run {

@@ -23,6 +23,11 @@ pub fn load() -> io::Result<Vec<Vector>> {
     paths.iter().map(|path| load_one(path)).collect()
 }
 
+/// The bytes of a vector that is no pool.
+pub fn load_bytes(name: &str) -> io::Result<Vec<u8>> {
+    parse_hex(&fs::read_to_string(Path::new(DIRECTORY).join(name))?)
+}
+
 fn is_pool(path: &Path) -> bool {
     let name = path.file_name().unwrap_or_default().to_string_lossy();
     name.starts_with("pool-") && name.ends_with(".hex")
