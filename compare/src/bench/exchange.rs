@@ -1,13 +1,12 @@
 //! Messages and displayed values, many at a time.
 
+use super::items;
 use super::keep;
-use super::times::{time, Times};
 use crate::exchange::{displayed, read_message, write_value, Fields};
 use crate::random::Random;
 use std::hint::black_box;
 
 const SEED: u64 = 11783;
-const ROUNDS: usize = 101;
 /// Items of a round, worked through so often that a round is long against the
 /// clock's step.
 const ITEMS: usize = 1_000;
@@ -132,39 +131,12 @@ pub fn bench() -> Result<(), String> {
     let random = &mut Random::new(SEED);
     let items: Vec<Item> = (0..ITEMS).map(|_| Item::draw(random)).collect();
     items.iter().try_for_each(Item::compare)?;
-    println!();
-    println!("nanoseconds a call; a second: the library's calls, in millions");
-    println!(
-        "{:>28}{:>20}{:>20}{:>20}{:>20}",
-        "", "library", "second", "library/second", "a second"
-    );
-    let columns = format!("{:>10}{:>10}", "best", "median");
-    println!("{:>28}{}", "", columns.repeat(4));
+    items::print_head("nanoseconds a call; a second: the library's calls, in millions");
     let read = (Item::read_by_library, Item::read_by_second);
-    bench_one("message read", &items, read.0, read.1);
+    items::bench("message read", &items, REPEATS, read.0, read.1);
     let write = (Item::write_by_library, Item::write_by_second);
-    bench_one("value message written", &items, write.0, write.1);
+    items::bench("value message written", &items, REPEATS, write.0, write.1);
     let display = (Item::display_by_library, Item::display_by_second);
-    bench_one("displayed value", &items, display.0, display.1);
+    items::bench("displayed value", &items, REPEATS, display.0, display.1);
     Ok(())
-}
-
-fn bench_one(name: &str, items: &[Item], by_library: impl Fn(&Item), by_second: impl Fn(&Item)) {
-    let (mut library, mut second) = (Vec::new(), Vec::new());
-    for _ in 0..ROUNDS {
-        library.push(nanoseconds(items, &by_library));
-        second.push(nanoseconds(items, &by_second));
-    }
-    let (library, second) = (Times::of(library), Times::of(second));
-    print!("{name:>28}");
-    library.print();
-    second.print();
-    library.against(second).print();
-    library.a_second().print();
-    println!();
-}
-
-fn nanoseconds(items: &[Item], call: impl Fn(&Item)) -> f64 {
-    let all = || black_box(items).iter().for_each(&call);
-    time(REPEATS, all) * 1e3 / items.len() as f64
 }

@@ -3,6 +3,8 @@
 mod case;
 mod exchange;
 mod extremes;
+mod items;
+mod logs;
 mod queries;
 mod sessions;
 mod sound;
@@ -21,7 +23,8 @@ pub fn bench() -> bool {
     let outcome = outcome
         .and_then(|()| queries::bench())
         .and_then(|()| sessions::bench())
-        .and_then(|()| exchange::bench());
+        .and_then(|()| exchange::bench())
+        .and_then(|()| logs::bench());
     if let Err(difference) = &outcome {
         println!("bench: the sides do not agree about {difference}");
     }

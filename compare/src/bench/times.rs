@@ -33,11 +33,11 @@ impl Times {
         }
     }
 
-    /// Calls a second in millions, of times in nanoseconds.
-    pub fn a_second(self) -> Times {
+    /// How much is done in a unit of time, where these are for so much.
+    pub fn rate(self, amount: f64) -> Times {
         Times {
-            best: 1e3 / self.best,
-            median: 1e3 / self.median,
+            best: amount / self.best,
+            median: amount / self.median,
         }
     }
 

@@ -10,6 +10,12 @@ mod vector;
 mod whole;
 mod writing;
 
+pub use draft::Draft;
+pub use library::{read_log, read_record, write_record};
+pub use reading::Reading;
+pub use whole::Whole;
+pub use writing::Writing;
+
 use crate::grid::Grid;
 use crate::part::{Part, Report};
 use library::Marks;

@@ -1,0 +1,218 @@
+//! Log records read and written, and logs read.
+
+use super::items;
+use super::keep;
+use super::times::{time, Times};
+use crate::logs::{read_log, read_record, write_record, Draft, Reading, Whole, Writing};
+use crate::random::Random;
+use std::hint::black_box;
+
+const SEED: u64 = 11783;
+/// All optional fields, and north, east and status.
+const ALL: u16 = 0x1FF;
+const THREE: u16 = 0x00B;
+/// Values of a record at most.
+const MOST_VALUES: usize = 255;
+
+/// Records of a kind that are worked through together, and values of them in a
+/// round, which is then long against the clock's step.
+const ITEMS: usize = 200;
+const ROUND_VALUES: usize = 400_000;
+/// What a record takes beside its values, as that of so many.
+const HEAD: usize = 20;
+
+/// Records of a day, one a second.
+const DAY: usize = 86_400;
+const LOG_ROUNDS: usize = 51;
+
+/// Kinds of records: a name, the layout and the count of values.
+const RECORDS: [(&str, u16, usize); 4] = [
+    ("0x00B, 2 values", THREE, 2),
+    ("0x1FF, 10 values", ALL, 10),
+    ("0x1FF, 30 values", ALL, 30),
+    ("0x1FF, 255 values", ALL, MOST_VALUES),
+];
+
+/// Kinds of logs: a name, the layout and the least and most count of values.
+const LOGS: [(&str, u16, usize, usize); 5] = [
+    ("0x1FF, 30 values", ALL, 30, 30),
+    ("0x1FF, 0 to 30 values", ALL, 0, 30),
+    ("0x1FF, 10 values", ALL, 10, 10),
+    ("0x00B, 2 values", THREE, 2, 2),
+    ("0x000, no value", 0, 0, 0),
+];
+
+struct Item {
+    draft: Draft,
+    bytes: Vec<u8>,
+}
+
+/// Memory that calls are lent.
+struct Lent {
+    to: Vec<u8>,
+    ordinals: Vec<u8>,
+    values: Vec<i32>,
+}
+
+pub fn bench() -> Result<(), String> {
+    let random = &mut Random::new(SEED);
+    bench_records(random)?;
+    bench_logs(random)
+}
+
+fn bench_records(random: &mut Random) -> Result<(), String> {
+    items::print_head("nanoseconds a log record; a second: the library's records, in millions");
+    for (name, layout, count) in RECORDS {
+        let drawn = (0..ITEMS).map(|_| Item::draw(random, layout, count));
+        let items: Vec<Item> = drawn.collect();
+        items.iter().try_for_each(Item::compare)?;
+        let repeats = ROUND_VALUES / (ITEMS * (HEAD + count)) + 1;
+        let (ours, theirs) = (&mut Lent::new(), &mut Lent::new());
+        items::bench(
+            &format!("{name}, read"),
+            &items,
+            repeats,
+            |item| item.read_by_library(ours),
+            |item| item.read_by_second(theirs),
+        );
+        items::bench(
+            &format!("{name}, written"),
+            &items,
+            repeats,
+            |item| item.write_by_library(ours),
+            |item| item.write_by_second(theirs),
+        );
+    }
+    Ok(())
+}
+
+impl Item {
+    fn draw(random: &mut Random, layout: u16, count: usize) -> Self {
+        let draft = Draft::under(random, layout, count, count);
+        let bytes = draft.bytes();
+        Item { draft, bytes }
+    }
+
+    /// Has both sides do all work once.
+    fn compare(&self) -> Result<(), String> {
+        let read = Reading::of(&self.bytes, &self.draft).by_both();
+        let read = read.map_err(|what| format!("a log record read: {what}"))?;
+        let written = Writing::of(&self.draft).by_both();
+        let (_, bytes) = written.map_err(|what| format!("a log record written: {what}"))?;
+        if read.is_of(&self.draft) && bytes == self.bytes {
+            Ok(())
+        } else {
+            Err(format!("a log record, which is not {:?}", self.draft))
+        }
+    }
+
+    fn read_by_library(&self, lent: &mut Lent) {
+        let (layout, logged) = (self.draft.layout, self.draft.logged);
+        let (ordinals, values) = (black_box(&mut lent.ordinals), black_box(&mut lent.values));
+        keep(read_record(&self.bytes, layout, logged, ordinals, values));
+    }
+
+    fn read_by_second(&self, lent: &mut Lent) {
+        let (layout, logged) = (self.draft.layout, self.draft.logged);
+        let (ordinals, values) = (black_box(&mut lent.ordinals), black_box(&mut lent.values));
+        keep(second::read_record(
+            &self.bytes,
+            layout,
+            logged,
+            ordinals,
+            values,
+        ));
+    }
+
+    fn write_by_library(&self, lent: &mut Lent) {
+        let draft = &self.draft;
+        keep(write_record(
+            black_box(&mut lent.to),
+            draft.layout,
+            &draft.fields,
+            draft.logged,
+            &draft.ordinals,
+            &draft.values,
+            draft.count(),
+        ));
+    }
+
+    fn write_by_second(&self, lent: &mut Lent) {
+        let draft = &self.draft;
+        keep(second::write_record(
+            black_box(&mut lent.to),
+            draft.layout,
+            &draft.fields,
+            draft.logged,
+            &draft.ordinals,
+            &draft.values,
+            draft.count(),
+        ));
+    }
+}
+
+impl Lent {
+    /// Enough for every record.
+    fn new() -> Self {
+        Lent {
+            to: vec![0; 2_000],
+            ordinals: vec![0; MOST_VALUES],
+            values: vec![0; MOST_VALUES],
+        }
+    }
+}
+
+fn bench_logs(random: &mut Random) -> Result<(), String> {
+    print_logs_head();
+    for (name, layout, least, most) in LOGS {
+        let mut bytes = Vec::new();
+        let mut header = Draft::under(random, layout, most, 0);
+        for _ in 0..DAY {
+            let count = random.between(least, most);
+            header = Draft::under(random, layout, most, count);
+            bytes.extend(header.bytes());
+        }
+        match Whole::of(&bytes, &header).by_both() {
+            Ok(log) if (log.number, log.count) == (0, DAY) => {}
+            log => return Err(format!("a log of {name}: {log:?}")),
+        }
+        let (mut library, mut second) = (Vec::new(), Vec::new());
+        for _ in 0..LOG_ROUNDS {
+            let bytes = black_box(&bytes[..]);
+            library.push(time(1, || keep(read_log(bytes, layout, most))));
+            second.push(time(1, || keep(second::read_log(bytes, layout, most))));
+        }
+        let (library, second) = (Times::of(library), Times::of(second));
+        print!("{name:>28}{:>10}{DAY:>9}", bytes.len());
+        library.print();
+        second.print();
+        library.against(second).print();
+        library.rate(bytes.len() as f64).print();
+        second.rate(bytes.len() as f64).print();
+        println!();
+    }
+    Ok(())
+}
+
+fn print_logs_head() {
+    println!();
+    println!("microseconds a log; MB/s: megabytes of a log in a second");
+    print!("{:>47}", "");
+    for name in [
+        "library",
+        "second",
+        "library/second",
+        "library's MB/s",
+        "second's MB/s",
+    ] {
+        print!("{name:>20}");
+    }
+    let columns = format!("{:>10}{:>10}", "best", "median");
+    println!(
+        "\n{:>28}{:>10}{:>9}{}",
+        "",
+        "bytes",
+        "records",
+        columns.repeat(5)
+    );
+}
