@@ -6,14 +6,14 @@ extern "C" {
     fn lachsbrille_read(
         pool: *const u8,
         pool_len: usize,
-        table: *mut u16,
+        table: *mut TableEntry,
         table_len: usize,
         value: *mut usize,
     ) -> u32;
     fn lachsbrille_check(
         pool: *const u8,
         pool_len: usize,
-        table: *mut u16,
+        table: *mut TableEntry,
         table_len: usize,
         faults: *mut u16,
         faults_len: usize,
@@ -22,8 +22,23 @@ extern "C" {
     fn lachsbrille_text_is_sound(text: *const u8, text_len: usize) -> bool;
 }
 
-/// Words of a table entry: start, length, kind, ID.
+/// An entry of the working table: four words.
+#[repr(C)]
+pub struct TableEntry {
+    start: u16,
+    length: u16,
+    kind: u16,
+    id: u16,
+}
+
+/// Words of a table entry.
 pub const ENTRY_WORDS: usize = 4;
+
+/// Words lent as a table: its first entry and how many entries it has. Words
+/// behind the last whole entry are not lent.
+pub fn entries(table: &mut [u16]) -> (*mut TableEntry, usize) {
+    (table.as_mut_ptr().cast(), table.len() / ENTRY_WORDS)
+}
 /// Words of a fault: record, rule, item.
 pub const FAULT_WORDS: usize = 3;
 
@@ -41,30 +56,24 @@ pub struct Answer {
 /// Reads `pool` with the proved library; the table counts words.
 pub fn read(pool: &[u8], table: &mut [u16]) -> Answer {
     let mut value = UNWRITTEN;
+    let (entries, count) = entries(table);
     // SAFETY: the three areas are live and apart for the whole call, and the
     // pointer of an empty slice is not null.
-    let number = unsafe {
-        lachsbrille_read(
-            pool.as_ptr(),
-            pool.len(),
-            table.as_mut_ptr(),
-            table.len(),
-            &mut value,
-        )
-    };
+    let number = unsafe { lachsbrille_read(pool.as_ptr(), pool.len(), entries, count, &mut value) };
     Answer { number, value }
 }
 
 /// Checks `pool` with the proved library; table and faults count words.
 pub fn check(pool: &[u8], table: &mut [u16], faults: &mut [u16]) -> Answer {
     let mut value = UNWRITTEN;
+    let (entries, count) = entries(table);
     // SAFETY: as for reading, with the faults as a fourth area.
     let number = unsafe {
         lachsbrille_check(
             pool.as_ptr(),
             pool.len(),
-            table.as_mut_ptr(),
-            table.len(),
+            entries,
+            count,
             faults.as_mut_ptr(),
             faults.len(),
             &mut value,

@@ -1,6 +1,7 @@
 //! The proved static library's messages, judgements and displayed values,
 //! through its C functions.
 
+use crate::library::{entries, TableEntry};
 use second::{Message, Record};
 
 extern "C" {
@@ -24,7 +25,7 @@ extern "C" {
     fn lachsbrille_judge(
         pool: *const u8,
         pool_len: usize,
-        table: *mut u16,
+        table: *mut TableEntry,
         table_len: usize,
         command: u8,
         element: u16,
@@ -145,14 +146,15 @@ impl Order {
     pub fn judge_by_library(self, pool: &[u8], table: &mut [u16]) -> Judgement {
         const BESIDE: u8 = 0xA5;
         let mut lent = [BESIDE; 3];
+        let (entries, count) = entries(table);
         // SAFETY: pool, table and error are live and apart for the whole call,
         // and the pointer of an empty slice is not null.
         let number = unsafe {
             lachsbrille_judge(
                 pool.as_ptr(),
                 pool.len(),
-                table.as_mut_ptr(),
-                table.len(),
+                entries,
+                count,
                 self.command,
                 self.element,
                 self.ddi,

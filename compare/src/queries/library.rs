@@ -1,12 +1,12 @@
 //! The proved static library's answers to queries, through its C functions.
 
-use crate::library::UNWRITTEN;
+use crate::library::{entries, TableEntry, UNWRITTEN};
 
 extern "C" {
     fn lachsbrille_text(
         pool: *const u8,
         pool_len: usize,
-        table: *mut u16,
+        table: *mut TableEntry,
         table_len: usize,
         id: u16,
         from: *mut usize,
@@ -15,7 +15,7 @@ extern "C" {
     fn lachsbrille_labels(
         pool: *const u8,
         pool_len: usize,
-        table: *mut u16,
+        table: *mut TableEntry,
         table_len: usize,
     ) -> Labels;
 }
@@ -42,13 +42,14 @@ pub struct Labels {
 /// Asks the proved library for the text of the record with this ID.
 pub fn text(pool: &[u8], table: &mut [u16], id: u16) -> TextAnswer {
     let (mut from, mut to) = (UNWRITTEN, UNWRITTEN);
+    let (entries, count) = entries(table);
     // SAFETY: as for reading; both places are areas of their own.
     let number = unsafe {
         lachsbrille_text(
             pool.as_ptr(),
             pool.len(),
-            table.as_mut_ptr(),
-            table.len(),
+            entries,
+            count,
             id,
             &mut from,
             &mut to,
@@ -59,8 +60,9 @@ pub fn text(pool: &[u8], table: &mut [u16], id: u16) -> TextAnswer {
 
 /// Asks the proved library for the labels.
 pub fn labels(pool: &[u8], table: &mut [u16]) -> Labels {
+    let (entries, count) = entries(table);
     // SAFETY: as for reading.
-    unsafe { lachsbrille_labels(pool.as_ptr(), pool.len(), table.as_mut_ptr(), table.len()) }
+    unsafe { lachsbrille_labels(pool.as_ptr(), pool.len(), entries, count) }
 }
 
 /// The same answer as the library would give it; a text is a part of `pool`.

@@ -1,5 +1,6 @@
 //! The proved static library's sessions, through its C functions.
 
+use crate::library::{entries, TableEntry};
 use second::{Book, Entry, Session, Stage};
 
 /// Given for values that can't arise.
@@ -28,7 +29,7 @@ extern "C" {
         staging_len: usize,
         kept: *mut u8,
         kept_len: usize,
-        table: *mut u16,
+        table: *mut TableEntry,
         table_len: usize,
     ) -> Step;
     fn lachsbrille_session_deactivate(value: Value) -> Step;
@@ -134,6 +135,7 @@ impl Value {
 
     /// The table counts words.
     pub fn activate(self, staging: &[u8], kept: &mut [u8], table: &mut [u16]) -> Step {
+        let (entries, count) = entries(table);
         // SAFETY: as for an offer; the three areas are apart.
         unsafe {
             lachsbrille_session_activate(
@@ -142,8 +144,8 @@ impl Value {
                 staging.len(),
                 kept.as_mut_ptr(),
                 kept.len(),
-                table.as_mut_ptr(),
-                table.len(),
+                entries,
+                count,
             )
         }
     }

@@ -9,7 +9,7 @@ use denote.Ref.{RefT, now}
 use lib.Dec.{eqb, ltb}
 use lib.ListN.{length, take}
 use Rattle.pool.specs.Answer.{Answer, answer}
-use Rattle.pool.specs.Reading.{Scan, records, refused, Cause, unmarked, cut, over, counted, pick, scanOf, readOf, roomOf}
+use Rattle.pool.specs.Reading.{Scan, records, refused, Cause, unmarked, cut, over, counted, pick, scanOf, readOf}
 use Rattle.pool.proofs.Judged.{read-walk}
 use Rattle.rules.specs.Table.{breachesOf}
 use Rattle.checker.specs.Checking.{checkOf}
@@ -96,9 +96,9 @@ real-transfer s piece ls =
     either (ltb ls (s .announced)) (λ e. record { step = record { session = s; answer = NoRoom }; tells = refl })
     (λ e. record { step = record { session = _; answer = Done }; tells = refl }))))
 
-real-activate : (s : Session) (staging : List ℕ) (kept table : List ℕ) → Real (S.activateOf s staging (length kept) table)
+real-activate : (s : Session) (staging kept : List ℕ) (room : ℕ) → Real (S.activateOf s staging (length kept) room)
 unfolding S.activateOf S.keptActivated S.settled
-real-activate s staging kept table =
+real-activate s staging kept room =
     either (S.impossible s) (λ e. impossible-told s) (λ e.
     either (not (S.isOffered (s .stage)))
     (λ o.
@@ -109,8 +109,8 @@ real-activate s staging kept table =
     either (ltb (s .received) (s .announced)) (λ z. record { step = record { session = s; answer = Incomplete }; tells = refl }) (λ z.
     either (ltb (length staging) (s .announced) || ltb (length kept) (s .announced)) (λ z. record { step = record { session = s; answer = NoRoom }; tells = refl }) (λ h.
     let w = sized s staging kept e (not-false (S.isOffered (s .stage)) o) h in
-    real-decided s (take (s .announced) staging) (checkOf (take (s .announced) staging) (roomOf table))
-    (shape-checked (take (s .announced) staging) (roomOf table) (w .1) (w .2))))))
+    real-decided s (take (s .announced) staging) (checkOf (take (s .announced) staging) room)
+    (shape-checked (take (s .announced) staging) room (w .1) (w .2))))))
 
 real-deactivate : (s : Session) → Real (S.deactivateOf s)
 unfolding S.deactivateOf
@@ -128,7 +128,7 @@ unfolding S.lostOf
 real-lost s = either (S.impossible s) (λ e. impossible-told s) (λ e. record { step = record { session = _; answer = Done }; tells = refl })
 
 -- one call, over a reference to each list
-ref : List ℕ → RefT (List ℕ)
+ref : {A : Type 0} → List A → RefT (List A)
 ref l = record { ptr = (0, 0); name = 0; now = l }
 
 record One (s : Session) (st k : List ℕ) (c : Call) : Type 0 where
@@ -146,8 +146,8 @@ one (transfer p) s st k =
     let r = real-transfer s p (length st) in
     record { step = r .step; staging = S.stagingAfter s p st; area = k; does = does-transfer ([], ([], tt)) s (ref p) (ref st) k (r .step) (S.stagingAfter s p st) tt (r .tells, refl) }
 one (activate t) s st k =
-    let r = real-activate s st k t in
-    record { step = r .step; staging = st; area = S.keptAfter s st k t; does = does-activate ([], ([], ([], tt))) s (ref st) (ref k) (ref t) (r .step) (S.keptAfter s st k t) (S.activatedTable s st (length k) t) tt (r .tells, refl, refl) }
+    let r = real-activate s st k (length t) in
+    record { step = r .step; staging = st; area = S.keptAfter s st k (length t); does = does-activate ([], ([], ([], tt))) s (ref st) (ref k) (ref t) (r .step) (S.keptAfter s st k (length t)) (S.activatedRecords s st (length k) t) (r .tells, refl, refl) }
 one deactivate s st k = let r = real-deactivate s in record { step = r .step; staging = st; area = k; does = does-deactivate tt s st k (r .step) tt (r .tells) }
 one delete s st k = let r = real-delete s in record { step = r .step; staging = st; area = k; does = does-delete tt s st k (r .step) tt (r .tells) }
 one lost s st k = let r = real-lost s in record { step = r .step; staging = st; area = k; does = does-lost tt s st k (r .step) tt (r .tells) }

@@ -50,7 +50,6 @@ booked staging kept cs =
         of-new = λ κs. tt;
         of-offer = λ κs s n x y. tt;
         of-transfer = λ κs s p x. tt;
-        of-activate = λ κs s x y z. tt;
         of-deactivate = λ κs s. tt;
         of-delete = λ κs s. tt;
         of-lost = λ κs s. tt;

@@ -10,7 +10,7 @@ use lib.ListN.{length, take, drop, length-append}
 use lib.Seq.{sets, sets-eq, length-sets, take-append-seam}
 use denote.Ref.{now}
 use Rattle.pool.specs.Answer.{Answer}
-use Rattle.pool.specs.Reading.{roomOf}
+use Rattle.working_table.specs.declared.Record.{Record}
 use Rattle.faults.specs.Faults.{Fault}
 use Rattle.rules.specs.Table.{breachesOf}
 use Rattle.checker.specs.Checking.{checkOf}
@@ -153,7 +153,7 @@ module _ (ls lk : ℕ) (b : Book) (st k : List ℕ) (g : Good ls lk b st k) wher
       (λ e1. simp (e0, e1) (record { said = refl; session = rw o; good = g }))
       (λ e1. simp (e0, e1) (record { said = refl; session = refl; good = over-good ls lk b st k g })))
 
-  activate-ok : (t : List ℕ) → Ok ls lk (S.activateOf (sessionOf b) st (length k) t) (noted ls lk b (activate t)) st (S.keptAfter (sessionOf b) st k t)
+  activate-ok : (t : List Record) → Ok ls lk (S.activateOf (sessionOf b) st (length k) (length t)) (noted ls lk b (activate t)) st (S.keptAfter (sessionOf b) st k (length t))
   unfolding S.activateOf S.keptAfter S.isChecked S.keptActivated S.settled S.keptSettled noted
   activate-ok t =
       rw (possible ls lk b st k g, offered-stage (b .offered), g .long-st, g .long-k)
@@ -162,7 +162,7 @@ module _ (ls lk : ℕ) (b : Book) (st k : List ℕ) (g : Good ls lk b st k) wher
       by-case (ltb (length (b .arrived)) (b .announced)) (λ e1. simp (o, e1) (record { said = refl; session = rw o; good = g })) (λ e1.
       let q : length (b .arrived) ≡ b .announced = omega (arith, g .part, ltb-false (length (b .arrived)) (b .announced) e1) in
       let p : take (b .announced) st ≡ b .arrived = ap (λ (n : ℕ). take n st) (sym q) ∙ g .staged in
-      simp (o, e1, le-ltb ls (b .announced) (g .in-st), le-ltb lk (b .announced) (g .in-k), p) (decided-ok o q (checkOf (b .arrived) (roomOf t)))))
+      simp (o, e1, le-ltb ls (b .announced) (g .in-st), le-ltb lk (b .announced) (g .in-k), p) (decided-ok o q (checkOf (b .arrived) (length t)))))
       (λ o.
       by-case (eqb (length (b .kept)) 0) (λ e1. simp (o, e1) (record { said = refl; session = rw o; good = g })) (λ e1.
       simp (o, e1, le-ltb lk (length (b .kept)) (g .kept-in)) (record { said = refl; session = refl; good = active-good o (eqb-false (length (b .kept)) 0 e1) }))))
@@ -255,9 +255,9 @@ does-ok {ls} {lk} {b} (does-transfer κs s p st k r st' ask post) e g =
     let q : S.stepOf r ≡ S.transferOf (sessionOf b) (now p) (length (now st)) = post .0 ∙ ap (λ (x : Session). S.transferOf x (now p) (length (now st))) e in
     let w : st' ≡ S.stagingAfter (sessionOf b) (now p) (now st) = post .1 ∙ ap (λ (x : Session). S.stagingAfter x (now p) (now st)) e in
     rw (q, w) (transfer-ok ls lk b (now st) k g (now p))
-does-ok {ls} {lk} {b} (does-activate κs s st k t r k' t' ask post) e g =
-    let q : S.stepOf r ≡ S.activateOf (sessionOf b) (now st) (length (now k)) (now t) = post .0 ∙ ap (λ (x : Session). S.activateOf x (now st) (length (now k)) (now t)) e in
-    let w : k' ≡ S.keptAfter (sessionOf b) (now st) (now k) (now t) = post .1 ∙ ap (λ (x : Session). S.keptAfter x (now st) (now k) (now t)) e in
+does-ok {ls} {lk} {b} (does-activate κs s st k t r k' t' post) e g =
+    let q : S.stepOf r ≡ S.activateOf (sessionOf b) (now st) (length (now k)) (length (now t)) = post .0 ∙ ap (λ (x : Session). S.activateOf x (now st) (length (now k)) (length (now t))) e in
+    let w : k' ≡ S.keptAfter (sessionOf b) (now st) (now k) (length (now t)) = post .1 ∙ ap (λ (x : Session). S.keptAfter x (now st) (now k) (length (now t))) e in
     rw (q, w) (activate-ok ls lk b (now st) (now k) g (now t))
 does-ok {ls} {lk} {b} (does-deactivate κs s st k r ask post) e g =
     let q : S.stepOf r ≡ S.deactivateOf (sessionOf b) = post ∙ ap S.deactivateOf e in

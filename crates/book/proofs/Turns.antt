@@ -12,7 +12,7 @@ use lib.Dec.{eqb, ltb}
 use lib.ListN.{length, take, drop}
 use lib.Seq.{sets, sets-eq}
 use Rattle.pool.specs.Answer.{Answer}
-use Rattle.pool.specs.Reading.{roomOf}
+use Rattle.working_table.specs.declared.Record.{Record}
 use Rattle.faults.specs.Faults.{fault}
 use Rattle.rules.specs.Table.{breachesOf}
 use Rattle.checker.specs.Checking.{checkOf}
@@ -37,7 +37,7 @@ tag delete = 0
 tag lost = 0
 
 -- a call that is no activation
-other : (c : Call) → tag c ≡ 0 → {P : Type 0} → (t : List ℕ) → c ≡ activate t → P
+other : (c : Call) → tag c ≡ 0 → {P : Type 0} → (t : List Record) → c ≡ activate t → P
 unfolding tag
 other c z t e = absurd (let y : tag c ≡ 1 = ap tag e in omega arith)
 
@@ -62,7 +62,7 @@ module _ (ls lk : ℕ) (b : Book) (st k : List ℕ) (g : Good ls lk b st k) wher
   unfolding noted
   deactivate-kept = by-case (b .active) (λ a. simp a) (λ a. simp a)
 
-  checked-turn : (t : List ℕ) → b .offered ≡ true → length (b .arrived) ≤ length k → (a : Answer)
+  checked-turn : (t : List Record) → b .offered ≡ true → length (b .arrived) ≤ length k → (a : Answer)
       → Turn b (checked b a .book) k (activate t) (checked b a .told) (S.choose (S.accepted a) (sets k 0 (b .arrived)) k)
   checked-turn t o room a =
       by-case (eqb (a .number) 0)
@@ -83,38 +83,38 @@ module _ (ls lk : ℕ) (b : Book) (st k : List ℕ) (g : Good ls lk b st k) wher
   noted-as c e f h = rw (e, f) h
 
   -- the area where checking is not reached
-  untouched : (t : List ℕ) → (b .offered ≡ false) ⊎ (ltb (length (b .arrived)) (b .announced) ≡ true) → S.keptAfter (sessionOf b) st k t ≡ k
+  untouched : (room : ℕ) → (b .offered ≡ false) ⊎ (ltb (length (b .arrived)) (b .announced) ≡ true) → S.keptAfter (sessionOf b) st k room ≡ k
   unfolding S.keptAfter S.isChecked
-  untouched t =
+  untouched room =
       rw (possible ls lk b st k g, offered-stage (b .offered))
       (⊎-elim (λ (o : b .offered ≡ false). rw o) (λ (e : ltb (length (b .arrived)) (b .announced) ≡ true). by-case (b .offered) (λ o. rw (o, e)) (λ o. rw o)))
 
-  reached : (t : List ℕ) → b .offered ≡ true → ltb (length (b .arrived)) (b .announced) ≡ false
-      → S.keptAfter (sessionOf b) st k t ≡ S.choose (S.accepted (checkOf (b .arrived) (roomOf t))) (sets k 0 (b .arrived)) k
+  reached : (room : ℕ) → b .offered ≡ true → ltb (length (b .arrived)) (b .announced) ≡ false
+      → S.keptAfter (sessionOf b) st k room ≡ S.choose (S.accepted (checkOf (b .arrived) room)) (sets k 0 (b .arrived)) k
   unfolding S.keptAfter S.isChecked S.keptSettled
-  reached t o e1 =
+  reached room o e1 =
       let q : length (b .arrived) ≡ b .announced = omega (arith, g .part, ltb-false (length (b .arrived)) (b .announced) e1) in
       let p : take (b .announced) st ≡ b .arrived = ap (λ (n : ℕ). take n st) (sym q) ∙ g .staged in
       rw (possible ls lk b st k g, offered-stage (b .offered), g .long-st, g .long-k, o, e1, le-ltb ls (b .announced) (g .in-st), le-ltb lk (b .announced) (g .in-k), p)
 
-  activate-turn : (t : List ℕ) → Turn b (noted ls lk b (activate t) .book) k (activate t) (noted ls lk b (activate t) .told) (S.keptAfter (sessionOf b) st k t)
+  activate-turn : (t : List Record) → Turn b (noted ls lk b (activate t) .book) k (activate t) (noted ls lk b (activate t) .told) (S.keptAfter (sessionOf b) st k (length t))
   unfolding noted
   activate-turn t =
       by-case (b .offered)
       (λ o.
       by-case (ltb (length (b .arrived)) (b .announced))
-      (λ e1. noted-as (activate t) {m' = note b 23} (simp (o, e1)) (untouched t (inr e1)) (stays (activate t) (said 23 0) (λ u v w z. omega arith) refl))
-      (λ e1. noted-as (activate t) {m' = checked b (checkOf (b .arrived) (roomOf t))} (simp (o, e1, le-ltb ls (b .announced) (g .in-st), le-ltb lk (b .announced) (g .in-k))) (reached t o e1)
-      (checked-turn t o (omega (arith, g .part, g .in-k, g .long-k)) (checkOf (b .arrived) (roomOf t)))))
+      (λ e1. noted-as (activate t) {m' = note b 23} (simp (o, e1)) (untouched (length t) (inr e1)) (stays (activate t) (said 23 0) (λ u v w z. omega arith) refl))
+      (λ e1. noted-as (activate t) {m' = checked b (checkOf (b .arrived) (length t))} (simp (o, e1, le-ltb ls (b .announced) (g .in-st), le-ltb lk (b .announced) (g .in-k))) (reached (length t) o e1)
+      (checked-turn t o (omega (arith, g .part, g .in-k, g .long-k)) (checkOf (b .arrived) (length t)))))
       (λ o.
       by-case (eqb (length (b .kept)) 0)
-      (λ e1. noted-as (activate t) {m' = note b 21} (simp (o, e1)) (untouched t (inl o)) (stays (activate t) (said 21 0) (λ u v w z. omega arith) refl))
-      (λ e1. noted-as (activate t) {m' = note (record { offered = false; announced = b .announced; arrived = b .arrived; kept = b .kept; active = true }) 0} (simp (o, e1, le-ltb lk (length (b .kept)) (g .kept-in))) (untouched t (inl o))
+      (λ e1. noted-as (activate t) {m' = note b 21} (simp (o, e1)) (untouched (length t) (inl o)) (stays (activate t) (said 21 0) (λ u v w z. omega arith) refl))
+      (λ e1. noted-as (activate t) {m' = note (record { offered = false; announced = b .announced; arrived = b .arrived; kept = b .kept; active = true }) 0} (simp (o, e1, le-ltb lk (length (b .kept)) (g .kept-in))) (untouched (length t) (inl o))
       (stays (activate t) (said 0 0) (λ u v w z. absurd (true≢false (sym w ∙ o))) refl)))
 
   -- activating an offered pool succeeds exactly when all of it arrived and it is accepted
-  pub exactly-book : (t : List ℕ) → b .offered ≡ true
-      → (noted ls lk b (activate t) .told .number ≡ 0) ↔ ((length (b .arrived) ≡ b .announced) × Accepted (b .arrived) (roomOf t))
+  pub exactly-book : (t : List Record) → b .offered ≡ true
+      → (noted ls lk b (activate t) .told .number ≡ 0) ↔ ((length (b .arrived) ≡ b .announced) × Accepted (b .arrived) (length t))
   unfolding noted
   exactly-book t o =
       by-case (ltb (length (b .arrived)) (b .announced))
@@ -122,7 +122,7 @@ module _ (ls lk : ℕ) (b : Book) (st k : List ℕ) (g : Good ls lk b st k) wher
       (λ e1.
       let q : length (b .arrived) ≡ b .announced = omega (arith, g .part, ltb-false (length (b .arrived)) (b .announced) e1) in
       let n = g .some o in
-      let w = exactly-accepted (b .arrived) (roomOf t) (omega (arith, q), omega (arith, q, g .size)) b in
+      let w = exactly-accepted (b .arrived) (length t) (omega (arith, q), omega (arith, q, g .size)) b in
       simp (o, e1, le-ltb ls (b .announced) (g .in-st), le-ltb lk (b .announced) (g .in-k))
       ((λ z. (q, w .0 z)), (λ h. w .1 (h .1))))
 
@@ -135,8 +135,8 @@ pub turn : {ls lk : ℕ} {b : Book} {s : Session} {st k st' k' : List ℕ} {c : 
 unfolding tag
 turn {ls} {lk} {b} (does-offer κs s n st k r ask post) e g = stays (offer n) _ (λ t z. other (offer n) refl t z) (offer-kept ls lk b (now st) (now k) g n)
 turn {ls} {lk} {b} (does-transfer κs s p st k r st' ask post) e g = stays (transfer (now p)) _ (λ t z. other (transfer (now p)) refl t z) (transfer-kept ls lk b (now st) k g (now p))
-turn {ls} {lk} {b} (does-activate κs s st k t r k' t' ask post) e g =
-    let w : k' ≡ S.keptAfter (sessionOf b) (now st) (now k) (now t) = post .1 ∙ ap (λ (x : Session). S.keptAfter x (now st) (now k) (now t)) e in
+turn {ls} {lk} {b} (does-activate κs s st k t r k' t' post) e g =
+    let w : k' ≡ S.keptAfter (sessionOf b) (now st) (now k) (length (now t)) = post .1 ∙ ap (λ (x : Session). S.keptAfter x (now st) (now k) (length (now t))) e in
     rw w (activate-turn ls lk b (now st) (now k) g (now t))
 turn {ls} {lk} {b} (does-deactivate κs s st k r ask post) e g = stays deactivate _ (λ t z. other deactivate refl t z) (deactivate-kept ls lk b st k g)
 turn (does-delete κs s st k r ask post) e g = deleted _
@@ -165,7 +165,7 @@ never-impossible ls lk b (activate t) h =
     by-case (b .offered) (λ o.
     by-case (ltb (length (b .arrived)) (b .announced)) (λ e1. omega (arith, rw (o, e1) at h)) (λ e1.
     by-case (ltb ls (b .announced) || ltb lk (b .announced)) (λ e2. omega (arith, rw (o, e1, e2) at h)) (λ e2.
-    checked-possible b (b .arrived) (roomOf t) (simp (o, e1, e2) at h))))
+    checked-possible b (b .arrived) (length t) (simp (o, e1, e2) at h))))
     (λ o.
     by-case (eqb (length (b .kept)) 0) (λ e1. omega (arith, rw (o, e1) at h)) (λ e1.
     by-case (ltb lk (length (b .kept))) (λ e2. omega (arith, rw (o, e1, e2) at h)) (λ e2. omega (arith, rw (o, e1, e2) at h))))

@@ -6,7 +6,7 @@ use mathlib.Core.List.{List, [], _∷_, _++_}
 use lib.Dec.{eqb, ltb}
 use lib.ListN.{length}
 use Rattle.pool.specs.Answer.{Answer}
-use Rattle.pool.specs.Reading.{roomOf}
+use Rattle.working_table.specs.declared.Record.{Record}
 use Rattle.faults.specs.Faults.{Fault, fault}
 use Rattle.rules.specs.Table.{breachesOf}
 use Rattle.checker.specs.Checking.{checkOf}
@@ -15,7 +15,7 @@ use Rattle.checker.specs.Checking.{checkOf}
 pub data Call : Type 0 where
   offer : ℕ → Call
   transfer : List ℕ → Call
-  activate : List ℕ → Call
+  activate : List Record → Call
   deactivate : Call
   delete : Call
   lost : Call
@@ -88,7 +88,7 @@ noted ls lk b (activate table) =
     if b .offered then
     (if ltb (length (b .arrived)) (b .announced) then note b 23 else
     (if ltb ls (b .announced) || ltb lk (b .announced) then note b 26 else
-    (checked b (checkOf (b .arrived) (roomOf table)))))
+    (checked b (checkOf (b .arrived) (length table)))))
     else
     (if eqb (length (b .kept)) 0 then note b 21 else
     (if ltb lk (length (b .kept)) then note b 26 else

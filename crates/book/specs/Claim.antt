@@ -7,7 +7,7 @@ use mathlib.Core.Logic.{_↔_}
 use mathlib.Core.List.{List, [], _∷_, _++_, map, List·Memᴰ}
 use lib.ListN.{length, drop}
 use Rattle.division.specs.Division.{Division}
-use Rattle.pool.specs.Reading.{roomOf}
+use Rattle.working_table.specs.declared.Record.{Record}
 use Rattle.rules.specs.Breach.{Breach}
 use Rattle.claims.specs.Reads.{listed}
 use Rattle.session.specs.declared.Answer.{Answer}
@@ -27,11 +27,11 @@ pub record Accepted (p : List ℕ) (room : ℕ) : Type 0 where
 -- what one more call does to the kept area k and to the pool kept before: the book is b before it and b' after it
 pub data Turn (b b' : Book) (k : List ℕ) : Call → Said → List ℕ → Type 0 where
   -- an offered pool is activated: the area starts with the bytes as sent, which are kept from now on; the bytes after them stay
-  won : (t : List ℕ) → b .offered ≡ true → b' .kept ≡ b .arrived → Turn b b' k (activate t) (said 0 0) (b .arrived ++ drop (length (b .arrived)) k)
+  won : (t : List Record) → b .offered ≡ true → b' .kept ≡ b .arrived → Turn b b' k (activate t) (said 0 0) (b .arrived ++ drop (length (b .arrived)) k)
   -- a delete: the area stays, byte for byte
   deleted : (q : Said) → Turn b b' k delete q k
   -- any other call, activating an offered pool without success too: the area stays, and so the pool kept before
-  stays : (c : Call) (q : Said) → ((t : List ℕ) → c ≡ activate t → b .offered ≡ true → q .number ≡ 0 → ⊥) → b' .kept ≡ b .kept → Turn b b' k c q k
+  stays : (c : Call) (q : Said) → ((t : List Record) → c ≡ activate t → b .offered ≡ true → q .number ≡ 0 → ⊥) → b' .kept ≡ b .kept → Turn b b' k c q k
 
 -- what holds after a list of calls over areas of ls and lk bytes, where b is the book of the list
 pub record After (ls lk : ℕ) (b : Book) (s : Session) (staging kept : List ℕ) : Type 0 where
@@ -43,8 +43,8 @@ pub record After (ls lk : ℕ) (b : Book) (s : Session) (staging kept : List ℕ
   -- one more call, whichever it is
   pub next : (c : Call) (r : Step) (staging' kept' : List ℕ) → Does s staging kept c r staging' kept' → Turn b (noted ls lk b c .book) kept c (told (r .answer)) kept'
   -- activating an offered pool succeeds exactly when as many bytes arrived as were announced and the pool is accepted
-  pub exactly : (t : List ℕ) (r : Step) (staging' kept' : List ℕ) → Does s staging kept (activate t) r staging' kept' → b .offered ≡ true
-      → (told (r .answer) .number ≡ 0) ↔ ((length (b .arrived) ≡ b .announced) × Accepted (b .arrived) (roomOf t))
+  pub exactly : (t : List Record) (r : Step) (staging' kept' : List ℕ) → Does s staging kept (activate t) r staging' kept' → b .offered ≡ true
+      → (told (r .answer) .number ≡ 0) ↔ ((length (b .arrived) ≡ b .announced) × Accepted (b .arrived) (length t))
 
 -- an outcome of a list of calls
 pub record Outcome (s : Session) (staging kept : List ℕ) (cs : List Call) : Type 0 where

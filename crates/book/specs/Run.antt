@@ -1,7 +1,7 @@
 -- A list of calls run on a session and its two areas. Each call's outcome is one that the contract of its function allows:
 -- `Asked` and `Learnt` are the prover's own readings of what a function asks of its caller and of what it promises, so nothing
 -- here says a contract again. Definitions only.
-use mathlib.Core.Path.{_≡_}
+use mathlib.Core.Path.{_≡_, refl}
 use mathlib.Core.Bool.{Bool, true, false}
 use mathlib.Core.List.{List, [], _∷_}
 use Prim.Native.Nat.{ℕ}
@@ -17,11 +17,18 @@ use Rattle.session.specs.declared.Step.{Step}
 use Rattle.session.proofs.new.Reads as new-reads
 use Rattle.session.proofs.offer.Reads as offer-reads
 use Rattle.session.proofs.transfer.Reads as transfer-reads
-use Rattle.session.proofs.activate.Reads as activate-reads
+use Rattle.session.proofs.activate as activate-contract
 use Rattle.session.proofs.deactivate.Reads as deactivate-reads
 use Rattle.session.proofs.delete.Reads as delete-reads
 use Rattle.session.proofs.lost.Reads as lost-reads
+use Rattle.working_table.specs.declared.Record.{Record}
+use Rattle.book.specs.Says.{Says}
 use Rattle.book.specs.Book.{Said, Book, Call, offer, transfer, activate, deactivate, delete, lost}
+
+-- what activating promises, which has no such reading since it takes a slice of records: the contract's own text, which `refl`
+-- holds to the whole of the contract. It asks nothing
+abbrev pub activate-says : Says activate-contract.ended (λ M. activate-contract.clauses)
+activate-says = record { Learnt = _; exact = λ w. refl }
 
 -- one call, from a session value, staging and the kept area: the step that it returns, and what it leaves in the two areas
 pub data Does : Session → List ℕ → List ℕ → Call → Step → List ℕ → List ℕ → Type 0 where
@@ -31,8 +38,8 @@ pub data Does : Session → List ℕ → List ℕ → Call → Step → List ℕ
   does-transfer : (κs : Lfts 2) (s : Session) (p st : RefT (List ℕ)) (k : List ℕ) (r : Step) (st' : List ℕ)
       → transfer-reads.Asked κs (s, (p, (st, tt))) → transfer-reads.Learnt κs (s, (p, (st, tt))) r (s, (p, (at-last st st', tt)))
       → Does s (now st) k (transfer (now p)) r st' k
-  does-activate : (κs : Lfts 3) (s : Session) (st k t : RefT (List ℕ)) (r : Step) (k' t' : List ℕ)
-      → activate-reads.Asked κs (s, (st, (k, (t, tt)))) → activate-reads.Learnt κs (s, (st, (k, (t, tt)))) r (s, (st, (at-last k k', (at-last t t', tt))))
+  does-activate : (κs : Lfts 3) (s : Session) (st k : RefT (List ℕ)) (t : RefT (List Record)) (r : Step) (k' : List ℕ) (t' : List Record)
+      → activate-says .Learnt κs (s, (st, (k, (t, tt)))) r (s, (st, (at-last k k', (at-last t t', tt))))
       → Does s (now st) (now k) (activate (now t)) r (now st) k'
   does-deactivate : (κs : Lfts 0) (s : Session) (st k : List ℕ) (r : Step)
       → deactivate-reads.Asked κs (s, tt) → deactivate-reads.Learnt κs (s, tt) r (s, tt) → Does s st k deactivate r st k
@@ -51,12 +58,11 @@ pub data Runs : Session → List ℕ → List ℕ → List Call → List Answer 
 pub data New : Session → Type 0 where
   is-new : (κs : Lfts 0) (s : Session) → new-reads.Asked κs tt → new-reads.Learnt κs tt s tt → New s
 
--- no call asks anything of its caller
+-- no call asks anything of its caller; of activating `activate-says` says it
 pub record Free : Type 0 where
   pub of-new : (κs : Lfts 0) → new-reads.Asked κs tt
   pub of-offer : (κs : Lfts 2) (s : Session) (n : ℕ) (st k : RefT (List ℕ)) → offer-reads.Asked κs (s, (n, (st, (k, tt))))
   pub of-transfer : (κs : Lfts 2) (s : Session) (p st : RefT (List ℕ)) → transfer-reads.Asked κs (s, (p, (st, tt)))
-  pub of-activate : (κs : Lfts 3) (s : Session) (st k t : RefT (List ℕ)) → activate-reads.Asked κs (s, (st, (k, (t, tt))))
   pub of-deactivate : (κs : Lfts 0) (s : Session) → deactivate-reads.Asked κs (s, tt)
   pub of-delete : (κs : Lfts 0) (s : Session) → delete-reads.Asked κs (s, tt)
   pub of-lost : (κs : Lfts 0) (s : Session) → lost-reads.Asked κs (s, tt)

@@ -10,7 +10,9 @@ use Rattle.pool.specs.Reading.{readOf}
 use Rattle.faults.specs.Faults.{Fault, fault}
 use Rattle.rules.specs.Table.{breachesOf}
 use Rattle.checker.specs.Checking.{checkOf}
-use Rattle.book.specs.Book.{Said, said, blank, saidOf, Call, offer, transfer, activate}
+use Rattle.working_table.specs.Filling.{blank}
+use Rattle.book.specs.Book as Book
+use Rattle.book.specs.Book.{Said, said, saidOf, Call, offer, transfer, activate}
 use Rattle.messages.specs.Reading as messages
 use Rattle.messages.specs.Reading.{Fields, valued}
 use Rattle.judging.specs.Judging.{judgeNumber, judgeError}
@@ -40,7 +42,7 @@ lastOf (q ∷ []) = q
 lastOf (q ∷ (r ∷ qs)) = lastOf (r ∷ qs)
 
 abbrev pub tells : List Call → Said → Case
-tells cs q = record { of = Said; is = lastOf (saidOf 100 100 blank cs); due = q }
+tells cs q = record { of = Said; is = lastOf (saidOf 100 100 Book.blank cs); due = q }
 
 -- a message's fields
 abbrev pub carries : List ℕ → Fields → Case
@@ -72,7 +74,7 @@ cases =
     ∷ checks (poolWith 1) (answer 0 1)
     ∷ breaches (poolWith 1) (fault 2 9 1 ∷ [])
     -- Q is announced with 71 bytes, its first 44 are sent: activating is refused with 23
-    ∷ tells (offer 71 ∷ transfer (take 44 poolQ) ∷ activate (replicate 40 0) ∷ []) (said 23 0)
+    ∷ tells (offer 71 ∷ transfer (take 44 poolQ) ∷ activate (replicate 10 blank) ∷ []) (said 23 0)
     -- a message for element 18 sets DDI 141 to -1
     ∷ carries (0x23 ∷ 0x01 ∷ 0x8D ∷ 0x00 ∷ 0xFF ∷ 0xFF ∷ 0xFF ∷ 0xFF ∷ []) (valued 3 18 141 (negsuc 0))
     -- Q's process data may not be set, has a trigger for time and none for distance

@@ -4,8 +4,11 @@ use Prim.Native.Nat.{ℕ}
 use mathlib.Core.Path.{_≡_}
 use mathlib.Core.List.{List, [], _∷_, _++_}
 use lib.ListN.{take, drop, replicate}
+use Rattle.working_table.specs.declared.Record.{Record}
+use Rattle.working_table.specs.Filling.{blank}
 use Rattle.faults.specs.Faults.{fault}
-use Rattle.book.specs.Book.{Said, said, blank, bookOf, saidOf, Call, offer, transfer, activate, deactivate, delete, lost}
+use Rattle.book.specs.Book as Book
+use Rattle.book.specs.Book.{Said, said, bookOf, saidOf, Call, offer, transfer, activate, deactivate, delete, lost}
 use Rattle.cases.specs.Pools.{poolQ}
 
 -- a call, and what it is told
@@ -17,8 +20,8 @@ abbrev gets : Call → Said → Line
 gets c q = record { call = c; told = q }
 
 -- a table of ten entries
-abbrev table : List ℕ
-table = replicate 40 0
+abbrev table : List Record
+table = replicate 10 blank
 
 abbrev pub opening : List Line
 opening =
@@ -69,8 +72,8 @@ toldIn [] = []
 toldIn (l ∷ ls) = l .told ∷ toldIn ls
 
 pub record Worked : Type 0 where
-  pub told : saidOf 80 80 blank (callsIn (opening ++ rest)) ≡ toldIn (opening ++ rest)
+  pub told : saidOf 80 80 Book.blank (callsIn (opening ++ rest)) ≡ toldIn (opening ++ rest)
   -- Q is kept once it has been activated, and stays until it is deleted
-  pub kept : bookOf 80 80 blank (callsIn opening) .kept ≡ poolQ
-  pub still : bookOf 80 80 blank (callsIn (opening ++ take 10 rest)) .kept ≡ poolQ
-  pub gone : bookOf 80 80 blank (callsIn (opening ++ rest)) .kept ≡ []
+  pub kept : bookOf 80 80 Book.blank (callsIn opening) .kept ≡ poolQ
+  pub still : bookOf 80 80 Book.blank (callsIn (opening ++ take 10 rest)) .kept ≡ poolQ
+  pub gone : bookOf 80 80 Book.blank (callsIn (opening ++ rest)) .kept ≡ []

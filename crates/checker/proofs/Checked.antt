@@ -19,6 +19,7 @@ use Rattle.records.specs.declared.Extent.the-variants.{Ends, Cut}
 use Rattle.records.proofs.Range.{cut-ends, guarded, fields-end}
 use Rattle.pool.specs.Answer.{Answer, answer}
 use Rattle.pool.specs.Reading.{Entry, width, flat, records, scanOf, entriesIn, readOf, roomOf, tableAfter}
+use Rattle.pool.specs.Walk.{Listed}
 use Rattle.pool.proofs.Steps.{Remaining, Next, next-of, none-left}
 use Rattle.pool.proofs.Judged.{Counted, read-counted, table-read}
 use Rattle.faults.specs.Faults.{written}
@@ -100,22 +101,25 @@ table-holds p table n e =
     let c : Counted p (roomOf table) n = read-counted p (roomOf table) n e in
     (rw (table-read p table n e, length-sets table 0 (flat (entriesIn (scanOf p)))) (omega (arith, c .fits)), c .few)
 
-module _ (p table filled : List ℕ) (n : ℕ) (e : answer 0 n ≡ readOf p (roomOf table)) (f : filled ≡ tableAfter p table) where
+module _ (p table filled : List ℕ) (n : ℕ) (e : answer 0 n ≡ readOf p (roomOf table)) (l : Listed p table filled) where
+  f : filled ≡ tableAfter p table
+  f = l (sym (ap (λ (a : Answer). a .number) e))
+
   pub may-count : (n * width ≤ length filled) × (n ≤ 8192) × Roomy p (shown filled n) 32768
   may-count =
       let h = table-holds p table n e in
       (rw f (h .0), h .1, rw (f, table-shows p table n e) (roomy p (roomOf table) n e))
 
   pub counted : (faults after : List ℕ) (k : ℕ) → Emits faults 0 (breachesIn p (shown filled n)) after k
-      → (answer 0 k ≡ checkOf p (roomOf table)) × (n ≡ countOf p (roomOf table)) × (filled ≡ tableAfter p table) × (after ≡ faultsAfter p (roomOf table) faults)
+      → (answer 0 k ≡ checkOf p (roomOf table)) × (n ≡ countOf p (roomOf table)) × Listed p table filled × (after ≡ faultsAfter p (roomOf table) faults)
   unfolding checkOf countOf faultsAfter breachesOf
   counted faults after k h =
       let w = emits-written (rw (f, table-shows p table n e) at h) in
-      (rw (← e) (ap (answer 0) (w .1)), rw (← e), f, rw (← e) (w .0))
+      (rw (← e) (ap (answer 0) (w .1)), rw (← e), l, rw (← e) (w .0))
 
 -- a refusal of reading is one of checking
-pub passed-on : (p table filled faults : List ℕ) (number value : ℕ) → answer (suc number) value ≡ readOf p (roomOf table) → filled ≡ tableAfter p table
-    → (answer (suc number) value ≡ checkOf p (roomOf table)) × (0 ≡ countOf p (roomOf table)) × (filled ≡ tableAfter p table) × (faults ≡ faultsAfter p (roomOf table) faults)
+pub passed-on : (p table filled faults : List ℕ) (number value : ℕ) → answer (suc number) value ≡ readOf p (roomOf table) → Listed p table filled
+    → (answer (suc number) value ≡ checkOf p (roomOf table)) × (0 ≡ countOf p (roomOf table)) × Listed p table filled × (faults ≡ faultsAfter p (roomOf table) faults)
 unfolding checkOf countOf faultsAfter
 passed-on p table filled faults number value e f =
     let d : eqb (suc number) 0 ≡ false = ne-eqb (suc number) 0 (λ (z : suc number ≡ 0). omega arith) in

@@ -3,4 +3,5 @@ pub mod Looking
 pub mod Whole
 pub mod Lists
 pub mod Checked
+pub mod Rooms
 pub mod Tries

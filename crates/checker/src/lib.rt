@@ -7,7 +7,8 @@ ghost use lib.Dec.{eqb};
 ghost use lib.ListN.{length};
 ghost use Rattle.records.specs.Fields.{elementOf};
 ghost use Rattle.pool.specs.Answer.{answerOf};
-ghost use Rattle.pool.specs.Reading.{width, scanOf, entriesIn, readOf, roomOf, tableAfter};
+ghost use Rattle.pool.specs.Reading.{width, scanOf, entriesIn, readOf, roomOf};
+ghost use Rattle.pool.specs.Walk.{Listed};
 ghost use Rattle.faults.specs.Emission.{Emits, Puts};
 ghost use Rattle.naming.specs.Records.{kindAt};
 ghost use Rattle.naming.specs.Naming.{firstOf, typeKey};
@@ -248,11 +249,12 @@ fn count_faults(p: &[u8], table: &[u16], count: usize, faults: &mut [u16]) -> us
     count_long(p, table, count, faults)
 }
 
-// Checks a pool: fills the table as reading does, and puts as many faults as fit into the buffer.
-pub fn check(p: &[u8], table: &mut [u16], faults: &mut [u16]) -> Verdict
-    ensures { λ r. ⌜ (verdictOf r ≡ checkOf (now (p .entry)) (roomOf (now (table .entry)))) × (recordsIn r ≡ countOf (now (p .entry)) (roomOf (now (table .entry)))) × (now (table .exit) ≡ tableAfter (now (p .entry)) (now (table .entry))) × (now (faults .exit) ≡ faultsAfter (now (p .entry)) (roomOf (now (table .entry))) (now (faults .entry))) ⌝ }
+// Checks a pool by a list of numbers in the place of a table, which is free after a refusal, and puts as many faults as fit into
+// the buffer.
+pub fn check_by(p: &[u8], table: &mut [u16], faults: &mut [u16]) -> Verdict
+    ensures { λ r. ⌜ (verdictOf r ≡ checkOf (now (p .entry)) (roomOf (now (table .entry)))) × (recordsIn r ≡ countOf (now (p .entry)) (roomOf (now (table .entry)))) × Listed (now (p .entry)) (now (table .entry)) (now (table .exit)) × (now (faults .exit) ≡ faultsAfter (now (p .entry)) (roomOf (now (table .entry))) (now (faults .entry))) ⌝ }
 {
-    let outcome = pool::read(p, table);
+    let outcome = pool::list(p, table);
     match outcome {
         Outcome::Records(count) => Verdict::Checked {
             records: count,
@@ -266,6 +268,47 @@ pub fn check(p: &[u8], table: &mut [u16], faults: &mut [u16]) -> Verdict
         Outcome::TooMany => Verdict::TooMany,
         Outcome::TableShort(needed) => Verdict::TableShort(needed),
     }
+}
+
+// Lists for a pool of at most 1,536 bytes, for one of at most 12,288, and for every pool: clearing a long one is a good part of
+// the time that a short pool takes. A record has at least 12 bytes.
+fn check_short(p: &[u8], room: usize, faults: &mut [u16]) -> Verdict
+    requires { ⌜ length (now p) ≤ 1536 ⌝ }
+    ensures { λ r. ⌜ (verdictOf r ≡ checkOf (now (p .entry)) room) × (recordsIn r ≡ countOf (now (p .entry)) room) × (now (faults .exit) ≡ faultsAfter (now (p .entry)) room (now (faults .entry))) ⌝ }
+{
+    let mut list = [0u16; 512];
+    let end = pool::numbers_for(room, 128);
+    check_by(p, &mut list[..end], faults)
+}
+
+fn check_middle(p: &[u8], room: usize, faults: &mut [u16]) -> Verdict
+    requires { ⌜ length (now p) ≤ 12288 ⌝ }
+    ensures { λ r. ⌜ (verdictOf r ≡ checkOf (now (p .entry)) room) × (recordsIn r ≡ countOf (now (p .entry)) room) × (now (faults .exit) ≡ faultsAfter (now (p .entry)) room (now (faults .entry))) ⌝ }
+{
+    let mut list = [0u16; 4096];
+    let end = pool::numbers_for(room, 1024);
+    check_by(p, &mut list[..end], faults)
+}
+
+fn check_long(p: &[u8], room: usize, faults: &mut [u16]) -> Verdict
+    ensures { λ r. ⌜ (verdictOf r ≡ checkOf (now (p .entry)) room) × (recordsIn r ≡ countOf (now (p .entry)) room) × (now (faults .exit) ≡ faultsAfter (now (p .entry)) room (now (faults .entry))) ⌝ }
+{
+    let mut list = [0u16; 21844];
+    let end = pool::numbers_for(room, 5461);
+    check_by(p, &mut list[..end], faults)
+}
+
+// Checks a pool for a table of so many entries, which is not looked at: puts as many faults as fit into the buffer.
+pub fn check(p: &[u8], room: usize, faults: &mut [u16]) -> Verdict
+    ensures { λ r. ⌜ (verdictOf r ≡ checkOf (now (p .entry)) room) × (recordsIn r ≡ countOf (now (p .entry)) room) × (now (faults .exit) ≡ faultsAfter (now (p .entry)) room (now (faults .entry))) ⌝ }
+{
+    if p.len() <= 1536 {
+        return check_short(p, room, faults);
+    }
+    if p.len() <= 12288 {
+        return check_middle(p, room, faults);
+    }
+    check_long(p, room, faults)
 }
 
 // Document 01's number for what checking answers, 0 where the pool is read.

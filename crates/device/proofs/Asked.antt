@@ -9,6 +9,7 @@ use Rattle.records.specs.Fields.{partOf, deviceOf}
 use Rattle.records.specs.declared.Span.{Span}
 use Rattle.pool.specs.Answer.{Answer, answer}
 use Rattle.pool.specs.Reading.{Entry, width, scanOf, entriesIn, readOf, roomOf, tableAfter}
+use Rattle.pool.specs.Walk.{Listed}
 use Rattle.pool.proofs.Steps.{Remaining}
 use Rattle.pool.proofs.Judged.{Counted, read-counted}
 use Rattle.naming.specs.Records.{startAt, idAt, kindAt}
@@ -57,12 +58,15 @@ text-missing p room id ok e = rw (← ok, e) (refl, refl, refl)
 
 -- ---- an accepted pool, and the table that checking has filled
 
-module _ (p table filled : List ℕ) (n : ℕ) (ok : 0 ≡ acceptance p (roomOf table)) (c : n ≡ countOf p (roomOf table)) (f : filled ≡ tableAfter p table) where
+module _ (p table filled : List ℕ) (n : ℕ) (ok : 0 ≡ acceptance p (roomOf table)) (c : n ≡ countOf p (roomOf table)) (l : Listed p table filled) where
   read : answer 0 n ≡ readOf p (roomOf table)
   read = ap (answer 0) c ∙ accepted-read p (roomOf table) (sym ok)
 
+  f : filled ≡ tableAfter p table
+  f = l (sym (ap (λ (a : Answer). a .number) read))
+
   pub may-look : (n * width ≤ length filled) × (n ≤ 8192)
-  may-look = let m = may-count p table filled n read f in (m .0, m .1)
+  may-look = let m = may-count p table filled n read l in (m .0, m .1)
 
   pub shows : shown filled n ≡ entriesIn (scanOf p)
   shows = ap (λ (t : List ℕ). shown t n) f ∙ table-shows p table n read

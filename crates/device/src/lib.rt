@@ -1,15 +1,15 @@
 // What may be asked of an accepted pool: a record's text by its ID, and the labels of the device. Every call checks the
-// pool first and fills the table as checking does.
+// pool first, for a table of so many entries.
 use checker::Verdict;
 use records::Span;
 ghost use mathlib.Core.Path.{_≡_};
 ghost use Prim.Native.Nat.{_*_, _≤_, _<_};
 ghost use lib.ListN.{length};
 ghost use Rattle.records.specs.Fields.{partOf, deviceOf};
-ghost use Rattle.pool.specs.Reading.{width, roomOf, tableAfter};
+ghost use Rattle.pool.specs.Reading.{width, roomOf};
 ghost use Rattle.naming.specs.Naming.{firstOf};
-ghost use Rattle.checker.specs.Checking.{verdictOf};
-ghost use Rattle.device.specs.Queries.{refusalIn, textIn, textNumber, textOf, Finds, Labelled};
+ghost use Rattle.checker.specs.Checking.{verdictOf, countOf};
+ghost use Rattle.device.specs.Queries.{refusalIn, textIn, Finds, Labelled};
 ghost use Rattle.device.specs.Parts.{columnIn, LabelledBy};
 
 // Where a text stands in the pool, or the number of a refusal with zeros.
@@ -41,6 +41,13 @@ pub fn refusal(verdict: Verdict) -> u32
         return 24;
     }
     0
+}
+
+// How many entries a query fills of a table of so many: as reading does, also where it is refused with 24 or 28.
+pub fn records_for(p: &[u8], room: usize) -> usize
+    ensures { λ r. ⌜ r ≡ countOf (now (p .entry)) room ⌝ }
+{
+    pool::records_of(pool::judge(p, room))
 }
 
 // The number, from 1, of the first record that has x in a column of the table, 0 for none. Column 2 is the kind, 3 the ID.
@@ -80,13 +87,13 @@ fn text_in(p: &[u8], kind: u16, at: u16) -> Span
     Span { from: 0, to: 0 }
 }
 
-// Finds a text: its place lies within the pool, also where it is empty. Of the faults only the count matters, so the buffer
-// for them has room for one.
-pub fn find_text(p: &[u8], table: &mut [u16], id: u16) -> Place
-    ensures { λ r. ⌜ Finds (now (p .entry)) (roomOf (now (table .entry))) id r × (now (table .exit) ≡ tableAfter (now (p .entry)) (now (table .entry))) ⌝ }
+// Finds a text by a list of numbers in the place of a table. Of the faults only the count matters, so the buffer for them has
+// room for one.
+fn find_text_by(p: &[u8], table: &mut [u16], id: u16) -> Place
+    ensures { λ r. ⌜ Finds (now (p .entry)) (roomOf (now (table .entry))) id r ⌝ }
 {
     let mut faults = [0u16; 3];
-    let verdict = checker::check(p, table, &mut faults);
+    let verdict = checker::check_by(p, table, &mut faults);
     let number = refusal(verdict);
     if number != 0 {
         return Place {
@@ -112,16 +119,23 @@ pub fn find_text(p: &[u8], table: &mut [u16], id: u16) -> Place
     }
 }
 
-// The text of the first record with an ID, as a slice of the pool that was lent. The number tells a refusal from a text
-// without bytes.
-pub fn text<'a>(p: &'a [u8], table: &mut [u16], id: u16, number: &mut u32) -> &'a [u8]
-    ensures { λ r. ⌜ (now r ≡ textOf (now (p .entry)) (roomOf (now (table .entry))) id) × (now (number .exit) ≡ textNumber (now (p .entry)) (roomOf (now (table .entry))) id) × (now (table .exit) ≡ tableAfter (now (p .entry)) (now (table .entry))) ⌝ }
+// Finds a text: its place lies within the pool, also where it is empty.
+pub fn find_text(p: &[u8], room: usize, id: u16) -> Place
+    ensures { λ r. ⌜ Finds (now (p .entry)) room id r ⌝ }
 {
-    let place = find_text(p, table, id);
+    let mut list = [0u16; 21844];
+    let end = pool::numbers_for(room, 5461);
+    find_text_by(p, &mut list[..end], id)
+}
+
+// A text that was looked for, as a slice of the pool that was lent. The number tells a refusal from a text without bytes.
+pub fn text_at<'a>(p: &'a [u8], place: Place, number: &mut u32) -> &'a [u8]
+    ensures { λ r. ⌜ (now r ≡ partOf (now (p .entry)) (record { from = place .from; to = place .to })) × (now (number .exit) ≡ place .number) ⌝ }
+{
     *number = place.number;
     let from = place.from;
     let to = place.to;
-    &p[from..to]
+    records::view::part(p, Span { from, to })
 }
 
 // The labels of the device that starts at a place.
@@ -150,13 +164,12 @@ fn labels_at(p: &[u8], at: u16) -> DeviceLabels
     }
 }
 
-// The labels of the device, by value, with the count of the extended label's bytes. An accepted pool has a device, so no
-// test looks for its absence.
-pub fn labels(p: &[u8], table: &mut [u16]) -> DeviceLabels
-    ensures { λ r. ⌜ Labelled (now (p .entry)) (roomOf (now (table .entry))) r × (now (table .exit) ≡ tableAfter (now (p .entry)) (now (table .entry))) ⌝ }
+// The labels by a list of numbers in the place of a table. An accepted pool has a device, so no test looks for its absence.
+fn labels_by(p: &[u8], table: &mut [u16]) -> DeviceLabels
+    ensures { λ r. ⌜ Labelled (now (p .entry)) (roomOf (now (table .entry))) r ⌝ }
 {
     let mut faults = [0u16; 3];
-    let verdict = checker::check(p, table, &mut faults);
+    let verdict = checker::check_by(p, table, &mut faults);
     let number = refusal(verdict);
     if number != 0 {
         return DeviceLabels {
@@ -169,4 +182,13 @@ pub fn labels(p: &[u8], table: &mut [u16]) -> DeviceLabels
     }
     let record = first_with(table, checker::records_of(verdict), 2, 1) as usize;
     labels_at(p, table[(record - 1) * 4])
+}
+
+// The labels of the device, by value, with the count of the extended label's bytes.
+pub fn labels(p: &[u8], room: usize) -> DeviceLabels
+    ensures { λ r. ⌜ Labelled (now (p .entry)) room r ⌝ }
+{
+    let mut list = [0u16; 21844];
+    let end = pool::numbers_for(room, 5461);
+    labels_by(p, &mut list[..end])
 }

@@ -6,12 +6,12 @@ use Prim.Native.Nat.{ℕ, _≤_, _<_}
 use native.Mathlib.Omega.{arith}
 use borrow.Author.Tests.{ne-eqb, lt-ltb, le-ltb}
 use lib.IntN.{ℤ}
-use Rattle.pool.specs.Reading.{Entry, scanOf, entriesIn, roomOf, tableAfter}
+use Rattle.pool.specs.Reading.{Entry, scanOf, entriesIn, roomOf}
 use Rattle.naming.specs.Naming.{kindOf}
 use Rattle.naming.specs.Lists.{shown, kindIn}
 use Rattle.device.specs.Queries.{acceptance, startOf}
 use Rattle.messages.specs.Layout.{carriesValue}
-use Rattle.judging.specs.Judging.{elementFor, objectFor, propertiesIn, triggersIn, objectError, errorOf, judgeNumber, judgeError, judgeTable}
+use Rattle.judging.specs.Judging.{elementFor, objectFor, propertiesIn, triggersIn, objectError, errorOf, judgeNumber, judgeError}
 use Rattle.judging.specs.Parts.{startIn}
 use Rattle.judging.proofs.Found.{start-shown, kind-shown, element-below, object-below}
 
@@ -73,19 +73,19 @@ module _ (p table : List ℕ) (count command element ddi : ℕ) (value : ℤ) (c
 
 module _ (p table : List ℕ) (command element ddi : ℕ) (value : ℤ) where
   pub too-large : 4095 < element
-      → (32 ≡ judgeNumber p (roomOf table) element) × (0 ≡ judgeError p (roomOf table) command element ddi value) × (table ≡ judgeTable p table element)
-  unfolding judgeNumber judgeError judgeTable
-  too-large h = rw (lt-ltb 4095 element h) (refl, refl, refl)
+      → (32 ≡ judgeNumber p (roomOf table) element) × (0 ≡ judgeError p (roomOf table) command element ddi value)
+  unfolding judgeNumber judgeError
+  too-large h = rw (lt-ltb 4095 element h) (refl, refl)
 
-  module _ (small : element ≤ 4095) (number : ℕ) (refused : number ≡ acceptance p (roomOf table)) (filled : List ℕ) (is : filled ≡ tableAfter p table) where
+  module _ (small : element ≤ 4095) (number : ℕ) (refused : number ≡ acceptance p (roomOf table)) (filled : List ℕ) where
     pub not-accepted : (number ≡ 0 → ⊥)
-        → (number ≡ judgeNumber p (roomOf table) element) × (0 ≡ judgeError p (roomOf table) command element ddi value) × (filled ≡ judgeTable p table element)
-    unfolding judgeNumber judgeError judgeTable
-    not-accepted h = rw (le-ltb 4095 element small, ← refused, ne-eqb number 0 h) (refl, refl, is)
+        → (number ≡ judgeNumber p (roomOf table) element) × (0 ≡ judgeError p (roomOf table) command element ddi value)
+    unfolding judgeNumber judgeError
+    not-accepted h = rw (le-ltb 4095 element small, ← refused, ne-eqb number 0 h) (refl, refl)
 
     pub judged : number ≡ 0 → (count error : ℕ) → error ≡ errorOf p (shown filled count) command element ddi value → shown filled count ≡ entriesIn (scanOf p)
-        → (0 ≡ judgeNumber p (roomOf table) element) × (error ≡ judgeError p (roomOf table) command element ddi value) × (filled ≡ judgeTable p table element)
-    unfolding judgeNumber judgeError judgeTable
+        → (0 ≡ judgeNumber p (roomOf table) element) × (error ≡ judgeError p (roomOf table) command element ddi value)
+    unfolding judgeNumber judgeError
     judged z count error e shows =
         rw (le-ltb 4095 element small, ← refused, z)
-        (refl, e ∙ ap (λ (es : List Entry). errorOf p es command element ddi value) shows, is)
+        (refl, e ∙ ap (λ (es : List Entry). errorOf p es command element ddi value) shows)

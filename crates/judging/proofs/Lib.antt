@@ -2,3 +2,4 @@
 pub mod Found
 pub mod Erring
 pub mod Unique
+pub mod Rooms

@@ -4,12 +4,17 @@ use checker::Verdict;
 use libc::STDERR_FILENO;
 use libc::STDIN_FILENO;
 use libc::STDOUT_FILENO;
+use working_table::Record;
 
 mod text;
 
 ghost use Prim.Native.Nat.{_+_, _*_, _≤_, _<_};
 ghost use mathlib.Core.Path.{_≡_};
-ghost use lib.ListN.{length};
+ghost use lib.ListN.{length, replicate};
+ghost use Rattle.working_table.specs.Filling.{blank};
+ghost use Rattle.working_table.specs.Table.{recordsAfter};
+ghost use Rattle.working_table.specs.Rows.{spreadOver};
+ghost use Rattle.checker.specs.Checking.{verdictOf, recordsIn, checkOf, countOf, faultsAfter};
 
 // What was read, 0 bytes at the end of the input.
 enum Input {
@@ -117,9 +122,26 @@ fn list_findings(faults: &[u16], count: usize, out: &mut [u8], from: usize) -> u
     list_faults(faults, count, out, from)
 }
 
+// Checks a pool with a table of 2,048 entries, which it gives as numbers, four for an entry: so the table is held in this
+// function alone.
+fn check_listing(p: &[u8], rows: &mut [u16], faults: &mut [u16]) -> Verdict
+    ensures { λ r. ⌜ (verdictOf r ≡ checkOf (now (p .entry)) 2048) × (recordsIn r ≡ countOf (now (p .entry)) 2048) × (now (faults .exit) ≡ faultsAfter (now (p .entry)) 2048 (now (faults .entry))) × (now (rows .exit) ≡ spreadOver (recordsAfter (now (p .entry)) (replicate 2048 blank)) 2048 (now (rows .entry))) ⌝ }
+{
+    let blank = Record {
+        start: 0,
+        length: 0,
+        kind: 0,
+        id: 0,
+    };
+    let mut table = [blank; 2048];
+    let verdict = device_pool::check(p, &mut table, faults);
+    working_table::spread(&table, rows);
+    verdict
+}
+
 // Lists a pool into lent memory and to standard output.
 fn list(p: &[u8], table: &mut [u16], faults: &mut [u16], out: &mut [u8]) {
-    let verdict = checker::check(p, table, faults);
+    let verdict = check_listing(p, table, faults);
     if let Verdict::Checked {
         records,
         faults: found,

@@ -13,12 +13,11 @@ use lib.Seq.{sets}
 use types.Run.{OneOf}
 use Rattle.pool.specs.Answer.{Answer, answer, answerOf}
 use Rattle.pool.specs.Reading.{Entry, width, flat, Cause, unmarked, cut, over, causeNumber, Scan, records, refused, scanOf, entriesIn, pick, pickTable, counted, readOf, roomOf, tableAfter}
-use Rattle.pool.specs.Walk.{countFrom, startsOf, ListsIf, Ready, Holds}
+use Rattle.pool.specs.Walk.{countFrom, ListsIf, Listed}
 use Rattle.pool.specs.declared.Outcome.{Outcome}
 use Rattle.pool.specs.declared.Outcome.the-variants.{Records, Empty, TooLong, NoMark, Cut, LengthOver, TooMany, TableShort}
 use Rattle.pool.proofs.Outcome.{the-type}
 use Rattle.pool.proofs.Steps.{cause-number}
-use Rattle.pool.proofs.Filling.{listed-starts}
 
 pub read-empty : (p : List ℕ) (room : ℕ) → length p ≡ 0 → readOf p room ≡ answer 1 0
 unfolding readOf
@@ -111,34 +110,20 @@ read-counted p room n e =
         lt-of-le-ne : (length p ≡ 0 → ⊥) → 0 < length p
         lt-of-le-ne z = omega arith
 
--- a pool that is read is ready to be filled from its starts
-pub ready : (p before starts table : List ℕ) (n : ℕ) → answer 0 n ≡ readOf p (roomOf table) → Holds (scanOf p) (length before) → length starts ≡ length before
-    → ListsIf (readOf p (roomOf table) .number) (scanOf p) before starts → Ready p starts n table
-ready p before starts table n e holds l f =
-    let k = read-counted p (roomOf table) n e in
-    let es = entriesIn (scanOf p) in
-    let room : length es ≤ length before = holds es (k .scanned) (omega (arith, k .count, k .few)) in
-    let laid : starts ≡ sets before 0 (startsOf es) = f (sym (ap (λ (a : Answer). a .number) e)) es (k .scanned) room in
-    record {
-      short = omega (arith, k .short);
-      scanned = k .scanned;
-      counted = k .count;
-      room = omega (arith, k .fits);
-      enough = omega (arith, k .count);
-      listed = listed-starts before starts es n (k .count) (omega (arith, k .count)) laid;
-    }
-
 -- a refusal lists nothing
 pub unlisted : (number : ℕ) (s : Scan) (before after : List ℕ) (a : Answer) → a ≡ answer (suc number) 0 → ListsIf (a .number) s before after
 unlisted number s before after a e z =
     let n : a .number ≡ suc number = ap (λ (x : Answer). x .number) e in
     absurd (omega arith)
 
--- the table where a pool is read, and where it is not
+-- the list of a pool that is read
 pub table-read : (p table : List ℕ) (n : ℕ) → answer 0 n ≡ readOf p (roomOf table) → tableAfter p table ≡ sets table 0 (flat (entriesIn (scanOf p)))
 unfolding tableAfter
 table-read p table n e = rw (eq-eqb (readOf p (roomOf table) .number) 0 (sym (ap (λ (a : Answer). a .number) e)))
 
-pub table-kept : (p table : List ℕ) → (readOf p (roomOf table) .number ≡ 0 → ⊥) → tableAfter p table ≡ table
-unfolding tableAfter
-table-kept p table h = rw (ne-eqb (readOf p (roomOf table) .number) 0 h)
+pub listed : (p before after : List ℕ) → ListsIf (readOf p (roomOf before) .number) (scanOf p) before after → Listed p before after
+listed p before after f z =
+    let n = readOf p (roomOf before) .value in
+    let e : answer 0 n ≡ readOf p (roomOf before) = ap (λ (k : ℕ). answer k n) (sym z) in
+    let k = read-counted p (roomOf before) n e in
+    f z (entriesIn (scanOf p)) (k .scanned) (omega (arith, k .count, k .fits)) ∙ sym (table-read p before n e)

@@ -1,5 +1,5 @@
 -- What belongs to no one function.
 pub mod Steps
 pub mod Listing
-pub mod Filling
 pub mod Judged
+pub mod Within

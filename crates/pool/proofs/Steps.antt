@@ -79,7 +79,7 @@ pub record Next (p : List ℕ) (at : ℕ) (rs : List Entry) : Type 0 where
   pub ends : extentOf p at ≡ Ends end
   pub left : List Entry
   pub first : rs ≡ entryAt p at end ∷ left
-  pub later : at + 3 ≤ end
+  pub later : at + 12 ≤ end
   pub within : end ≤ length p
   pub rest : Remaining p end left
 
@@ -147,12 +147,12 @@ sets-entry table n e es =
     let z : suc (suc (suc (suc (n * width)))) ≡ (n + 1) * width = omega arith in
     ap (λ (i : ℕ). sets (sets table (n * width) (numbers e)) i (flat es)) z
 
--- a record takes at least three bytes, so a pool has at most a third as many records
-pub few-left : (p : List ℕ) (rs : List Entry) (at : ℕ) → at ≤ length p → Remaining p at rs → at + 3 * length rs ≤ length p
+-- a record takes at least twelve bytes, so a pool has at most a twelfth as many records
+pub few-left : (p : List ℕ) (rs : List Entry) (at : ℕ) → at ≤ length p → Remaining p at rs → at + 12 * length rs ≤ length p
 few-left p [] at w m = omega arith
 few-left p (e ∷ es) at w m = go (decLt at (length p)) (few-left p es)
   where
-    go : Dec (at < length p) → ((next : ℕ) → next ≤ length p → Remaining p next es → next + 3 * length es ≤ length p) → at + 3 * length (e ∷ es) ≤ length p
+    go : Dec (at < length p) → ((next : ℕ) → next ≤ length p → Remaining p next es → next + 12 * length es ≤ length p) → at + 12 * length (e ∷ es) ≤ length p
     go (yes l) rest =
         let x = next-of p at (e ∷ es) l m in
         let same : x .left ≡ es = cc (x .first) in
@@ -163,6 +163,6 @@ few-left p (e ∷ es) at w m = go (decLt at (length p)) (few-left p es)
         let z : _≡_ {A = ℕ} 0 1 = cc in
         absurd (omega arith)
 
-pub few-records : (p : List ℕ) (es : List Entry) → scanOf p ≡ records es → 3 * length es ≤ length p
+pub few-records : (p : List ℕ) (es : List Entry) → scanOf p ≡ records es → 12 * length es ≤ length p
 unfolding scanOf
 few-records p es e = omega (arith, few-left p es 0 (omega arith) (record { turns = length p; enough = omega arith; reads = e }))

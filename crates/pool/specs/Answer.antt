@@ -20,3 +20,14 @@ answerOf (Cut at) = answer 4 at
 answerOf (LengthOver at) = answer 5 at
 answerOf TooMany = answer 6 0
 answerOf (TableShort needed) = answer 7 needed
+
+-- how many records reading finds, 0 for a refusal
+abbrev pub recordsIn : Outcome → ℕ
+recordsIn (Records count) = count
+recordsIn Empty = 0
+recordsIn TooLong = 0
+recordsIn (NoMark at) = 0
+recordsIn (Cut at) = 0
+recordsIn (LengthOver at) = 0
+recordsIn TooMany = 0
+recordsIn (TableShort needed) = 0

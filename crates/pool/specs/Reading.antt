@@ -1,6 +1,6 @@
 -- Reading a pool: document 01, "Reading a pool". Definitions only.
 use Prim.Native.Nat.{ℕ, zero, suc, _+_, _-_, _/_}
-use mathlib.Core.Bool.{Bool, true, false}
+use mathlib.Core.Bool.{Bool, true, false, cond}
 use mathlib.Core.List.{List, [], _∷_, _++_}
 use lib.Dec.{eqb, ltb}
 use lib.ListN.{length}
@@ -93,6 +93,10 @@ readOf p room = pick (eqb (length p) 0) (answer 1 0) (pick (ltb 65535 (length p)
 
 abbrev pub roomOf : List ℕ → ℕ
 roomOf table = length table / width
+
+-- a room that is no larger than it has to be
+abbrev pub least : ℕ → ℕ → ℕ
+least room most = cond (ltb room most) room most
 
 abbrev pub pickTable : Bool → List ℕ → List ℕ → List ℕ
 pickTable true a b = a

@@ -11,6 +11,8 @@ use Rattle.wire.specs.Bytes.{numberAt}
 use Rattle.records.specs.Layout.{Field, fixed, text, entries, layout, markOf, three}
 use Rattle.records.specs.Extents.{pick, fieldEnd, next, fieldsEnd, markedEnd, extentOf}
 use Rattle.records.specs.Fields.{behind, behindAll}
+use Rattle.records.specs.declared.Kind.{Kind}
+use Rattle.records.specs.declared.Kind.the-variants.{Dvc, Det, Dpd, Dpt, Dvp}
 use Rattle.records.specs.declared.Mark.{Mark}
 use Rattle.records.specs.declared.Mark.the-variants.{Of, Unknown}
 use Rattle.records.specs.declared.Extent.{Extent}
@@ -81,13 +83,22 @@ fields-end (f ∷ fs) p at e h k = go (λ m. fields-end fs p m e) (fieldEnd f p 
     go rest Cut q g = absurd (refused Cut cut-ends g)
     go rest (LengthOver o) q g = absurd (refused (LengthOver o) (over-ends o) g)
 
-pub extent-ends : (p : List ℕ) (at e : ℕ) → extentOf p at ≡ Ends e → (at + 3 ≤ e) × (e ≤ length p)
+-- no record takes fewer than 12 bytes
+kind-long : (k : Kind) (p : List ℕ) (at : ℕ) → at + 9 ≤ behindAll (layout k) p at
+unfolding layout
+kind-long Dvc p at = omega arith
+kind-long Det p at = omega arith
+kind-long Dpd p at = omega arith
+kind-long Dpt p at = omega arith
+kind-long Dvp p at = omega arith
+
+pub extent-ends : (p : List ℕ) (at e : ℕ) → extentOf p at ≡ Ends e → (at + 12 ≤ e) × (e ≤ length p)
 unfolding extentOf
 extent-ends p at e h =
     let g = guarded (leb (at + 3) (length p)) (markedEnd (markOf (three p at)) p (at + 3)) Cut e cut-ends h in
     let fits : at + 3 ≤ length p = leb-true (at + 3) (length p) (g .0) in
     go fits (markOf (three p at)) (g .1)
   where
-    go : at + 3 ≤ length p → (m : Mark) → markedEnd m p (at + 3) ≡ Ends e → (at + 3 ≤ e) × (e ≤ length p)
-    go fits (Of k) g = let r = fields-end (layout k) p (at + 3) e g fits in (r .0, r .1)
+    go : at + 3 ≤ length p → (m : Mark) → markedEnd m p (at + 3) ≡ Ends e → (at + 12 ≤ e) × (e ≤ length p)
+    go fits (Of k) g = let r = fields-end (layout k) p (at + 3) e g fits in (omega (arith, r .2, kind-long k p (at + 3)), r .1)
     go fits Unknown g = absurd (unmarked-ends e g)

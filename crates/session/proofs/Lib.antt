@@ -2,3 +2,4 @@
 pub mod Arising
 pub mod Pieces
 pub mod Settled
+pub mod Filled

@@ -11,7 +11,7 @@ use lib.Seq.{sets}
 use Rattle.wire.specs.Bytes.{laid}
 use Rattle.wire.proofs.Laid.{laid-fits}
 use Rattle.pool.specs.Answer.{Answer, answer}
-use Rattle.pool.specs.Reading.{Scan, records, refused, Cause, unmarked, cut, over, causeNumber, counted, pick, scanOf, readOf, roomOf}
+use Rattle.pool.specs.Reading.{Scan, records, refused, Cause, unmarked, cut, over, causeNumber, counted, pick, scanOf, readOf}
 use Rattle.pool.proofs.Judged.{read-walk}
 use Rattle.faults.specs.Faults.{Fault, fault, written}
 use Rattle.rules.specs.Table.{breachesOf}
@@ -76,13 +76,13 @@ laid-whole p kept h = laid-fits kept 0 p (le-leb (0 + length p) (length kept) (o
 abbrev told : Session → Reply → Told
 told s q = record { session = s; reply = q }
 
-module _ (s : Session) (p table : List ℕ) (v : Verdict) (e : verdictOf v ≡ checkOf p (roomOf table)) (n : ℕ) (f : n ≡ verdictOf v .number) where
+module _ (s : Session) (p : List ℕ) (room : ℕ) (v : Verdict) (e : verdictOf v ≡ checkOf p room) (n : ℕ) (f : n ≡ verdictOf v .number) where
   number-of : verdictOf v .number ≡ n
   number-of = sym f
 
   pub too-short : n ≡ 7 → (r : Told) (q : Reply) (kept : List ℕ) → r ≡ told s q
       → (3 ≤ verdictOf v .number → q ≡ reply (verdictOf v .number) (verdictOf v .value))
-      → (r ≡ settled s p table) × (kept ≡ keptSettled p table kept)
+      → (r ≡ settled s p room) × (kept ≡ keptSettled p room kept)
   unfolding settled keptSettled
   too-short h r q kept a b =
       let g : verdictOf v .number ≡ 7 = number-of ∙ h in (
@@ -92,36 +92,36 @@ module _ (s : Session) (p table : List ℕ) (v : Verdict) (e : verdictOf v ≡ c
 
   pub unreadable : (n ≡ 7 → ⊥) → (n ≡ 0 → ⊥) → 0 < length p → length p ≤ 65535 → (r : Told) (t : Session) (q : Reply) (kept : List ℕ) → t ≡ ended s → r ≡ told t q
       → (3 ≤ verdictOf v .number → q ≡ reply (verdictOf v .number) (verdictOf v .value))
-      → (r ≡ settled s p table) × (kept ≡ keptSettled p table kept)
+      → (r ≡ settled s p room) × (kept ≡ keptSettled p room kept)
   unfolding settled keptSettled
   unreadable h7 h0 some few r t q kept d a b =
       let g : eqb (verdictOf v .number) 0 ≡ false = ne-eqb (verdictOf v .number) 0 (λ (z : verdictOf v .number ≡ 0). h0 (f ∙ z)) in
-      let same : verdictOf v .number ≡ checkOf p (roomOf table) .number = ap (λ (x : Answer). x .number) e in
-      let not-read : checkOf p (roomOf table) .number ≡ 0 → ⊥ = λ (z : checkOf p (roomOf table) .number ≡ 0). h0 (f ∙ same ∙ z) in
-      let high : 3 ≤ verdictOf v .number = rw same (check-high p (roomOf table) some few not-read) in
+      let same : verdictOf v .number ≡ checkOf p room .number = ap (λ (x : Answer). x .number) e in
+      let not-read : checkOf p room .number ≡ 0 → ⊥ = λ (z : checkOf p room .number ≡ 0). h0 (f ∙ same ∙ z) in
+      let high : 3 ≤ verdictOf v .number = rw same (check-high p room some few not-read) in
       (a ∙ rw (d, b high) (rw (← e, ne-eqb (verdictOf v .number) 7 (λ (z : verdictOf v .number ≡ 7). h7 (f ∙ z)), g)), rw (← e, g))
 
   module _ (zero : n ≡ 0) (w : ℕ) (k : w ≡ verdictOf v .value) where
-    read : readOf p (roomOf table) .number ≡ 0
-    read = sym (check-number p (roomOf table)) ∙ sym (ap (λ (a : Answer). a .number) e) ∙ number-of ∙ zero
+    read : readOf p room .number ≡ 0
+    read = sym (check-number p room) ∙ sym (ap (λ (a : Answer). a .number) e) ∙ number-of ∙ zero
 
     -- what checking then says
-    answered : checkOf p (roomOf table) ≡ answer 0 w
+    answered : checkOf p room ≡ answer 0 w
     answered =
-        let c = check-read p (roomOf table) read in
+        let c = check-read p room read in
         c ∙ ap (answer 0) (sym (ap (λ (a : Answer). a .value) (e ∙ c)) ∙ sym k)
 
-    pub faulted : (w ≡ 0 → ⊥) → (r : Told) (t : Session) (after kept : List ℕ) → t ≡ ended s → after ≡ faultsAfter p (roomOf table) (replicate 3 0)
+    pub faulted : (w ≡ 0 → ⊥) → (r : Told) (t : Session) (after kept : List ℕ) → t ≡ ended s → after ≡ faultsAfter p room (replicate 3 0)
         → r ≡ told t (faulty (fault (getD after 0 0) (getD after 1 0) (getD after 2 0)))
-        → (r ≡ settled s p table) × (kept ≡ keptSettled p table kept)
+        → (r ≡ settled s p room) × (kept ≡ keptSettled p room kept)
     unfolding settled keptSettled
     faulted h r t after kept d b a =
-        let some : length (breachesOf p) ≡ 0 → ⊥ = λ (z : length (breachesOf p) ≡ 0). h (sym (ap (λ (a : Answer). a .value) (sym (check-read p (roomOf table) read) ∙ answered)) ∙ z) in
-        let first = first-written (breachesOf p) some after (b ∙ faults-read p (roomOf table) read (replicate 3 0)) in
+        let some : length (breachesOf p) ≡ 0 → ⊥ = λ (z : length (breachesOf p) ≡ 0). h (sym (ap (λ (a : Answer). a .value) (sym (check-read p room read) ∙ answered)) ∙ z) in
+        let first = first-written (breachesOf p) some after (b ∙ faults-read p room read (replicate 3 0)) in
         (a ∙ rw (d, first) (rw (answered, ne-eqb w 0 h)), rw (answered, ne-eqb w 0 h))
 
     pub kept-now : w ≡ 0 → (kept after : List ℕ) → length p ≤ length kept → after ≡ laid kept 0 p
-        → (done (record { stage = Idle; announced = 0; received = 0; kept = length p; active = true }) ≡ settled s p table) × (after ≡ keptSettled p table kept)
+        → (done (record { stage = Idle; announced = 0; received = 0; kept = length p; active = true }) ≡ settled s p room) × (after ≡ keptSettled p room kept)
     unfolding settled keptSettled
     kept-now h kept after room a = (rw (answered, eq-eqb w 0 h), a ∙ laid-whole p kept room ∙ rw (answered, eq-eqb w 0 h))
 

@@ -7,10 +7,11 @@ use lib.Dec.{eqb, ltb}
 use lib.ListN.{length, take}
 use lib.Seq.{sets}
 use Rattle.pool.specs.Answer.{Answer}
-use Rattle.pool.specs.Reading.{roomOf, tableAfter}
 use Rattle.faults.specs.Faults.{Fault, fault}
 use Rattle.rules.specs.Table.{breachesOf}
-use Rattle.checker.specs.Checking.{checkOf}
+use Rattle.working_table.specs.declared.Record.{Record}
+use Rattle.working_table.specs.Table.{recordsAfter}
+use Rattle.checker.specs.Checking.{checkOf, countOf}
 use Rattle.session.specs.Answers.{Reply, reply, faulty, replyOf}
 use Rattle.session.specs.declared.Stage.{Stage}
 use Rattle.session.specs.declared.Stage.the-variants.{Idle, Offered}
@@ -105,16 +106,16 @@ decided s p a =
     (choose (not (eqb (a .value) 0)) (record { session = ended s; reply = faulty (firstIn (breachesOf p)) })
     (done (record { stage = Idle; announced = 0; received = 0; kept = length p; active = true }))))
 
-unfoldable pub settled : Session → List ℕ → List ℕ → Told
-settled s p table = decided s p (checkOf p (roomOf table))
+unfoldable pub settled : Session → List ℕ → ℕ → Told
+settled s p room = decided s p (checkOf p room)
 
 -- accepted: read, and without a fault
 abbrev pub accepted : Answer → Bool
 accepted a = eqb (a .number) 0 && eqb (a .value) 0
 
 -- the kept area then starts with the pool, if it is accepted
-unfoldable pub keptSettled : List ℕ → List ℕ → List ℕ → List ℕ
-keptSettled p table kept = choose (accepted (checkOf p (roomOf table))) (sets kept 0 p) kept
+unfoldable pub keptSettled : List ℕ → ℕ → List ℕ → List ℕ
+keptSettled p room kept = choose (accepted (checkOf p room)) (sets kept 0 p) kept
 
 -- activating an offer that can be looked at: all of it has arrived, and both areas are long enough
 abbrev pub complete : Session → ℕ → ℕ → Told → Told
@@ -122,11 +123,12 @@ complete s ls lk t =
     choose (ltb (s .received) (s .announced)) (refused s 23)
     (choose (ltb ls (s .announced) || ltb lk (s .announced)) (refused s 26) t)
 
-unfoldable pub activateOf : Session → List ℕ → ℕ → List ℕ → Told
-activateOf s staging lk table =
+-- activating over a kept area of lk bytes, with a table of so many entries
+unfoldable pub activateOf : Session → List ℕ → ℕ → ℕ → Told
+activateOf s staging lk room =
     judged s
     (choose (not (isOffered (s .stage))) (keptActivated s lk)
-    (complete s (length staging) lk (settled s (take (s .announced) staging) table)))
+    (complete s (length staging) lk (settled s (take (s .announced) staging) room)))
 
 -- whether checking is reached at all
 unfoldable pub isChecked : Session → ℕ → ℕ → Bool
@@ -134,12 +136,16 @@ isChecked s ls lk =
     not (impossible s) && (isOffered (s .stage) && (not (ltb (s .received) (s .announced)) && not (ltb ls (s .announced) || ltb lk (s .announced))))
 
 -- the kept area and the table change only where checking is reached
-unfoldable pub keptAfter : Session → List ℕ → List ℕ → List ℕ → List ℕ
-keptAfter s staging kept table =
-    choose (isChecked s (length staging) (length kept)) (keptSettled (take (s .announced) staging) table kept) kept
+unfoldable pub keptAfter : Session → List ℕ → List ℕ → ℕ → List ℕ
+keptAfter s staging kept room =
+    choose (isChecked s (length staging) (length kept)) (keptSettled (take (s .announced) staging) room kept) kept
 
-unfoldable pub activatedTable : Session → List ℕ → ℕ → List ℕ → List ℕ
-activatedTable s staging lk table = choose (isChecked s (length staging) lk) (tableAfter (take (s .announced) staging) table) table
+unfoldable pub activatedRecords : Session → List ℕ → ℕ → List Record → List Record
+activatedRecords s staging lk table = choose (isChecked s (length staging) lk) (recordsAfter (take (s .announced) staging) table) table
+
+-- how many entries of a table of so many are filled
+unfoldable pub recordsFor : Session → List ℕ → ℕ → ℕ → ℕ
+recordsFor s staging lk room = choose (isChecked s (length staging) lk) (countOf (take (s .announced) staging) room) 0
 
 unfoldable pub deactivateOf : Session → Told
 deactivateOf s =

@@ -1,14 +1,14 @@
 // One client's session: a pool is offered, transferred in pieces and activated. The session is a value that each call takes
 // and returns; the bytes are in two areas that the caller lends.
 use checker::Verdict;
+use working_table::Record;
 ghost use mathlib.Core.Path.{_≡_};
 ghost use Prim.Native.Nat.{ℕ, _+_, _≤_, _<_};
 ghost use lib.ListN.{length};
 ghost use lib.Seq.{sets};
-ghost use Rattle.pool.specs.Reading.{tableAfter};
 ghost use Rattle.checker.specs.Checking.{verdictOf};
 ghost use Rattle.session.specs.Answers.{reply, replyOf, replyIn};
-ghost use Rattle.session.specs.Calls.{isOffered, newSession, ended, impossible, stepOf, refused, offerOf, transferOf, stagingAfter, keptActivated, settled, keptSettled, activateOf, keptAfter, activatedTable, deactivateOf, deleteOf, lostOf};
+ghost use Rattle.session.specs.Calls.{isOffered, newSession, ended, impossible, stepOf, refused, offerOf, transferOf, stagingAfter, keptActivated, settled, keptSettled, activateOf, isChecked, keptAfter, activatedRecords, recordsFor, deactivateOf, deleteOf, lostOf};
 
 pub enum Stage {
     Idle,
@@ -205,12 +205,12 @@ fn unread(verdict: Verdict) -> Answer
 }
 
 // Checks the pool that has arrived whole, and keeps it if it is accepted.
-fn settle(s: Session, p: &[u8], kept: &mut [u8], table: &mut [u16]) -> Step
+fn settle(s: Session, p: &[u8], kept: &mut [u8], room: usize) -> Step
     requires { ⌜ (1 ≤ length (now p)) × (length (now p) ≤ 65535) × (length (now p) ≤ length (now kept)) ⌝ }
-    ensures { λ r. ⌜ (stepOf r ≡ settled s (now (p .entry)) (now (table .entry))) × (now (kept .exit) ≡ keptSettled (now (p .entry)) (now (table .entry)) (now (kept .entry))) × (now (table .exit) ≡ tableAfter (now (p .entry)) (now (table .entry))) ⌝ }
+    ensures { λ r. ⌜ (stepOf r ≡ settled s (now (p .entry)) room) × (now (kept .exit) ≡ keptSettled (now (p .entry)) room (now (kept .entry))) ⌝ }
 {
     let mut first = [0u16; 3];
-    let verdict = checker::check(p, table, &mut first);
+    let verdict = checker::check(p, room, &mut first);
     let number = checker::number_of(verdict);
     if number == 7 {
         return refuse(s, unread(verdict));
@@ -239,9 +239,9 @@ fn settle(s: Session, p: &[u8], kept: &mut [u8], table: &mut [u16]) -> Step
     }
 }
 
-// Activates the pool that is offered, or else the one that is kept.
-pub fn activate(s: Session, staging: &[u8], kept: &mut [u8], table: &mut [u16]) -> Step
-    ensures { λ r. ⌜ (stepOf r ≡ activateOf s (now (staging .entry)) (length (now (kept .entry))) (now (table .entry))) × (now (kept .exit) ≡ keptAfter s (now (staging .entry)) (now (kept .entry)) (now (table .entry))) × (now (table .exit) ≡ activatedTable s (now (staging .entry)) (length (now (kept .entry))) (now (table .entry))) ⌝ }
+// Activates the pool that is offered, or else the one that is kept, for a table of so many entries.
+fn activate_in(s: Session, staging: &[u8], kept: &mut [u8], room: usize) -> Step
+    ensures { λ r. ⌜ (stepOf r ≡ activateOf s (now (staging .entry)) (length (now (kept .entry))) room) × (now (kept .exit) ≡ keptAfter s (now (staging .entry)) (now (kept .entry)) room) ⌝ }
 {
     if is_impossible(s) {
         return refuse(s, Answer::CannotArise);
@@ -257,7 +257,45 @@ pub fn activate(s: Session, staging: &[u8], kept: &mut [u8], table: &mut [u16]) 
     if (staging.len() < announced) | (kept.len() < announced) {
         return refuse(s, Answer::NoRoom);
     }
-    settle(s, &staging[..announced], kept, table)
+    settle(s, &staging[..announced], kept, room)
+}
+
+// Whether activating comes to check a pool, over areas of so many bytes.
+fn is_checked(s: Session, staging: usize, kept: usize) -> bool
+    ensures { λ r. ⌜ r ≡ isChecked s staging kept ⌝ }
+{
+    if is_impossible(s) {
+        return false;
+    }
+    let stage = s.stage;
+    if !is_offered(stage) {
+        return false;
+    }
+    if s.received < s.announced {
+        return false;
+    }
+    !((staging < s.announced) | (kept < s.announced))
+}
+
+// How many entries activating fills of a table of so many: none where no pool is checked.
+fn records_for(s: Session, staging: &[u8], kept: usize, room: usize) -> usize
+    ensures { λ r. ⌜ r ≡ recordsFor s (now (staging .entry)) kept room ⌝ }
+{
+    if !is_checked(s, staging.len(), kept) {
+        return 0;
+    }
+    let announced = s.announced;
+    pool::records_of(pool::judge(&staging[..announced], room))
+}
+
+// Activates the pool that is offered, or else the one that is kept. The table is filled where a pool is checked and read.
+pub fn activate(s: Session, staging: &[u8], kept: &mut [u8], table: &mut [Record]) -> Step
+    ensures { λ r. ⌜ (stepOf r ≡ activateOf s (now (staging .entry)) (length (now (kept .entry))) (length (now (table .entry)))) × (now (kept .exit) ≡ keptAfter s (now (staging .entry)) (now (kept .entry)) (length (now (table .entry)))) × (now (table .exit) ≡ activatedRecords s (now (staging .entry)) (length (now (kept .entry))) (now (table .entry))) ⌝ }
+{
+    let room = table.len();
+    let count = records_for(s, staging, kept.len(), room);
+    working_table::fill(staging, count, table);
+    activate_in(s, staging, kept, room)
 }
 
 pub fn deactivate(s: Session) -> Step

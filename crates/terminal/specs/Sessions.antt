@@ -7,6 +7,7 @@ use Rattle.session.specs.Calls.{isOffered, choose, Told}
 use Rattle.session.specs.declared.Session.{Session}
 use Rattle.session.specs.declared.Stage.{Stage}
 use Rattle.session.specs.declared.Stage.the-variants.{Idle, Offered}
+use Rattle.working_table.specs.declared.Record.{Record}
 use Rattle.terminal.specs.declared.sessions.ClientSession.{ClientSession}
 use Rattle.terminal.specs.declared.sessions.ClientStep.{ClientStep}
 
@@ -52,3 +53,10 @@ outcome v t = choose (isKnown v) (givenStep t) (unknown v)
 
 unfoldable pub left : ClientSession → List ℕ → List ℕ → List ℕ
 left v after before = choose (isKnown v) after before
+
+unfoldable pub leftRecords : ClientSession → List Record → List Record → List Record
+leftRecords v after before = choose (isKnown v) after before
+
+-- the session that is asked in the place of a value with an unknown stage or mark: one that can't arise
+unfoldable pub sessionIn : ClientSession → Session
+sessionIn v = choose (isKnown v) (valueOf v) (record { stage = Idle; announced = 65536; received = 0; kept = 0; active = false })

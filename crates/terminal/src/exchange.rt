@@ -1,11 +1,13 @@
 // Process data messages for C: read, written and judged.
+use judging::Judgement;
 use messages::Message;
+use working_table::Record;
 ghost use mathlib.Core.Path.{_≡_};
 ghost use lib.ListN.{length};
-ghost use Rattle.pool.specs.Reading.{roomOf};
 ghost use Rattle.messages.specs.Reading.{refused, fieldsOf, readOf};
 ghost use Rattle.messages.specs.Writing.{valueRefusal, valueAfter, acknowledgeRefusal, acknowledgeAfter};
-ghost use Rattle.judging.specs.Judging.{judgeNumber, judgeError, judgeTable};
+ghost use Rattle.judging.specs.Judging.{judgeNumber, judgeError};
+ghost use Rattle.device_pool.specs.Tables.{judgedRecords};
 ghost use Rattle.terminal.specs.Exchange.{fieldsIn};
 
 // A message that is read: number 0 and its fields, an acknowledge with command 13, or the number of a refusal with zeros.
@@ -107,20 +109,26 @@ pub extern "C" fn lachsbrille_message_write_acknowledge(
     messages::number_of(messages::write_acknowledge(to, element, ddi, errors, answered))
 }
 
+fn give_judgement(judgement: Judgement, error: &mut u8) -> u32
+    ensures { λ r. ⌜ (r ≡ judgement .number) × (now (error .exit) ≡ judgement .error) ⌝ }
+{
+    *error = judgement.error;
+    judgement.number
+}
+
 // Judges a command to the device: the error byte goes into the lent byte, 0 where the call is refused.
 #[no_mangle]
 pub extern "C" fn lachsbrille_judge(
     p: &[u8],
-    table: &mut [u16],
+    table: &mut [Record],
     command: u8,
     element: u16,
     ddi: u16,
     value: i32,
     error: &mut u8,
 ) -> u32
-    ensures { λ r. ⌜ (r ≡ judgeNumber (now (p .entry)) (roomOf (now (table .entry))) element) × (now (error .exit) ≡ judgeError (now (p .entry)) (roomOf (now (table .entry))) command element ddi value) × (now (table .exit) ≡ judgeTable (now (p .entry)) (now (table .entry)) element) ⌝ }
+    ensures { λ r. ⌜ (r ≡ judgeNumber (now (p .entry)) (length (now (table .entry))) element) × (now (error .exit) ≡ judgeError (now (p .entry)) (length (now (table .entry))) command element ddi value) × (now (table .exit) ≡ judgedRecords (now (p .entry)) (now (table .entry)) element) ⌝ }
 {
-    let judgement = judging::judge(p, table, command, element, ddi, value);
-    *error = judgement.error;
-    judgement.number
+    let judgement = device_pool::judge(p, table, command, element, ddi, value);
+    give_judgement(judgement, error)
 }

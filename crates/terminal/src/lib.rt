@@ -1,5 +1,10 @@
-// The C interface: numbers and lent memory. A refusal is its number; what goes with it is put into a lent number.
+// The C interface: numbers and lent memory. A refusal is its number; what goes with it is put into a lent number. The working
+// table is a lent slice of records.
+use checker::Verdict;
 use device::DeviceLabels;
+use device::Place;
+use pool::Outcome;
+use working_table::Record;
 
 pub mod display;
 pub mod exchange;
@@ -7,34 +12,50 @@ pub mod logs;
 pub mod sessions;
 
 ghost use mathlib.Core.Path.{_≡_};
-ghost use Rattle.pool.specs.Reading.{readOf, roomOf, tableAfter};
+ghost use lib.ListN.{length};
+ghost use Rattle.pool.specs.Answer.{answerOf};
+ghost use Rattle.pool.specs.Reading.{readOf};
+ghost use Rattle.working_table.specs.Table.{recordsAfter};
 ghost use Rattle.text.specs.Examined.{soundText};
-ghost use Rattle.checker.specs.Checking.{checkOf, faultsAfter};
+ghost use Rattle.checker.specs.Checking.{verdictOf, checkOf, faultsAfter};
 ghost use Rattle.device.specs.Queries.{Labelled};
 ghost use Rattle.terminal.specs.Numbers.{Says, Gives};
 
-#[no_mangle]
-pub extern "C" fn lachsbrille_read(p: &[u8], table: &mut [u16], value: &mut usize) -> u32
-    ensures { λ r. ⌜ Says (readOf (now (p .entry)) (roomOf (now (table .entry)))) r (now (value .exit)) × (now (table .exit) ≡ tableAfter (now (p .entry)) (now (table .entry))) ⌝ }
+fn give_outcome(outcome: Outcome, value: &mut usize) -> u32
+    ensures { λ r. ⌜ Says (answerOf outcome) r (now (value .exit)) ⌝ }
 {
-    let outcome = pool::read(p, table);
     *value = pool::value_of(outcome);
     pool::number_of(outcome)
+}
+
+// Reads a pool into the table: the count of records or the refusal's place goes into the lent number.
+#[no_mangle]
+pub extern "C" fn lachsbrille_read(p: &[u8], table: &mut [Record], value: &mut usize) -> u32
+    ensures { λ r. ⌜ Says (readOf (now (p .entry)) (length (now (table .entry)))) r (now (value .exit)) × (now (table .exit) ≡ recordsAfter (now (p .entry)) (now (table .entry))) ⌝ }
+{
+    let outcome = device_pool::read(p, table);
+    give_outcome(outcome, value)
+}
+
+fn give_verdict(verdict: Verdict, value: &mut usize) -> u32
+    ensures { λ r. ⌜ Says (verdictOf verdict) r (now (value .exit)) ⌝ }
+{
+    *value = checker::value_of(verdict);
+    checker::number_of(verdict)
 }
 
 // Checks a pool: the full count of faults or the refusal's place goes into the lent number.
 #[no_mangle]
 pub extern "C" fn lachsbrille_check(
     p: &[u8],
-    table: &mut [u16],
+    table: &mut [Record],
     faults: &mut [u16],
     value: &mut usize,
 ) -> u32
-    ensures { λ r. ⌜ Says (checkOf (now (p .entry)) (roomOf (now (table .entry)))) r (now (value .exit)) × (now (table .exit) ≡ tableAfter (now (p .entry)) (now (table .entry))) × (now (faults .exit) ≡ faultsAfter (now (p .entry)) (roomOf (now (table .entry))) (now (faults .entry))) ⌝ }
+    ensures { λ r. ⌜ Says (checkOf (now (p .entry)) (length (now (table .entry)))) r (now (value .exit)) × (now (table .exit) ≡ recordsAfter (now (p .entry)) (now (table .entry))) × (now (faults .exit) ≡ faultsAfter (now (p .entry)) (length (now (table .entry))) (now (faults .entry))) ⌝ }
 {
-    let verdict = checker::check(p, table, faults);
-    *value = checker::value_of(verdict);
-    checker::number_of(verdict)
+    let verdict = device_pool::check(p, table, faults);
+    give_verdict(verdict, value)
 }
 
 // Whether a text keeps rule 4.
@@ -45,27 +66,33 @@ pub extern "C" fn lachsbrille_text_is_sound(s: &[u8]) -> bool
     text::is_sound(s)
 }
 
-// Where the text of the first record with an ID stands in the pool: from one lent place up to the other.
-#[no_mangle]
-pub extern "C" fn lachsbrille_text(
-    p: &[u8],
-    table: &mut [u16],
-    id: u16,
-    from: &mut usize,
-    to: &mut usize,
-) -> u32
-    ensures { λ r. ⌜ Gives (now (p .entry)) (roomOf (now (table .entry))) id r (now (from .exit)) (now (to .exit)) × (now (table .exit) ≡ tableAfter (now (p .entry)) (now (table .entry))) ⌝ }
+fn give_place(place: Place, from: &mut usize, to: &mut usize) -> u32
+    ensures { λ r. ⌜ (r ≡ place .number) × (now (from .exit) ≡ place .from) × (now (to .exit) ≡ place .to) ⌝ }
 {
-    let place = device::find_text(p, table, id);
     *from = place.from;
     *to = place.to;
     place.number
 }
 
+// Where the text of the first record with an ID stands in the pool: from one lent place up to the other.
+#[no_mangle]
+pub extern "C" fn lachsbrille_text(
+    p: &[u8],
+    table: &mut [Record],
+    id: u16,
+    from: &mut usize,
+    to: &mut usize,
+) -> u32
+    ensures { λ r. ⌜ Gives (now (p .entry)) (length (now (table .entry))) id r (now (from .exit)) (now (to .exit)) × (now (table .exit) ≡ recordsAfter (now (p .entry)) (now (table .entry))) ⌝ }
+{
+    let place = device_pool::find_text(p, table, id);
+    give_place(place, from, to)
+}
+
 // The labels of the device, as a struct by value.
 #[no_mangle]
-pub extern "C" fn lachsbrille_labels(p: &[u8], table: &mut [u16]) -> DeviceLabels
-    ensures { λ r. ⌜ Labelled (now (p .entry)) (roomOf (now (table .entry))) r × (now (table .exit) ≡ tableAfter (now (p .entry)) (now (table .entry))) ⌝ }
+pub extern "C" fn lachsbrille_labels(p: &[u8], table: &mut [Record]) -> DeviceLabels
+    ensures { λ r. ⌜ Labelled (now (p .entry)) (length (now (table .entry))) r × (now (table .exit) ≡ recordsAfter (now (p .entry)) (now (table .entry))) ⌝ }
 {
-    device::labels(p, table)
+    device_pool::labels(p, table)
 }

@@ -2,12 +2,13 @@
 use session::Session;
 use session::Stage;
 use session::Step;
+use working_table::Record;
 ghost use mathlib.Core.Path.{_≡_};
 ghost use Prim.Native.Nat.{ℕ, _≤_};
 ghost use lib.ListN.{length};
 ghost use mathlib.Core.Bool.{cond};
-ghost use Rattle.session.specs.Calls.{newSession, isOffered, stepOf, offerOf, transferOf, stagingAfter, activateOf, keptAfter, activatedTable, deactivateOf, deleteOf, lostOf};
-ghost use Rattle.terminal.specs.Sessions.{stageIn, isKnown, valueOf, given, givenStep, unknown, outcome, left};
+ghost use Rattle.session.specs.Calls.{newSession, isOffered, stepOf, offerOf, transferOf, stagingAfter, activateOf, keptAfter, activatedRecords, deactivateOf, deleteOf, lostOf};
+ghost use Rattle.terminal.specs.Sessions.{stageIn, isKnown, valueOf, given, givenStep, unknown, outcome, left, leftRecords, sessionIn};
 
 // Stage 0 is none and 1 offered; active is 0 or 1. Any other number is a value that can't arise.
 #[repr(C)]
@@ -157,20 +158,45 @@ pub extern "C" fn lachsbrille_session_transfer(
     give_step(session::transfer(value_of(v), piece, staging))
 }
 
+// The value that a C caller's stands for; one that can't arise for any with an unknown stage or mark.
+fn session_of(v: ClientSession) -> Session
+    ensures { λ r. ⌜ r ≡ sessionIn v ⌝ }
+{
+    if !is_known(v) {
+        return Session {
+            stage: Stage::Idle,
+            announced: 65536,
+            received: 0,
+            kept: 0,
+            active: false,
+        };
+    }
+    value_of(v)
+}
+
+// A step as a C caller gets it; 27 leaves the value as it was given, whatever it is.
+fn give_client(v: ClientSession, r: Step) -> ClientStep
+    ensures { λ q. ⌜ q ≡ outcome v (stepOf r) ⌝ }
+{
+    if !is_known(v) {
+        return refuse(v);
+    }
+    give_step(r)
+}
+
 // Activates the pool that is offered, or else the one that is kept.
 #[no_mangle]
 pub extern "C" fn lachsbrille_session_activate(
     v: ClientSession,
     staging: &[u8],
     kept: &mut [u8],
-    table: &mut [u16],
+    table: &mut [Record],
 ) -> ClientStep
-    ensures { λ r. ⌜ (r ≡ outcome v (activateOf (valueOf v) (now (staging .entry)) (length (now (kept .entry))) (now (table .entry)))) × (now (kept .exit) ≡ left v (keptAfter (valueOf v) (now (staging .entry)) (now (kept .entry)) (now (table .entry))) (now (kept .entry))) × (now (table .exit) ≡ left v (activatedTable (valueOf v) (now (staging .entry)) (length (now (kept .entry))) (now (table .entry))) (now (table .entry))) ⌝ }
+    ensures { λ r. ⌜ (r ≡ outcome v (activateOf (valueOf v) (now (staging .entry)) (length (now (kept .entry))) (length (now (table .entry))))) × (now (kept .exit) ≡ left v (keptAfter (valueOf v) (now (staging .entry)) (now (kept .entry)) (length (now (table .entry)))) (now (kept .entry))) × (now (table .exit) ≡ leftRecords v (activatedRecords (valueOf v) (now (staging .entry)) (length (now (kept .entry))) (now (table .entry))) (now (table .entry))) ⌝ }
 {
-    if !is_known(v) {
-        return refuse(v);
-    }
-    give_step(session::activate(value_of(v), staging, kept, table))
+    let s = session_of(v);
+    let step = session::activate(s, staging, kept, table);
+    give_client(v, step)
 }
 
 #[no_mangle]

@@ -1,95 +1,34 @@
--- `device::find_text` meets its contract: the text of a whole record lies within the pool. Assumes nothing.
-use mathlib.Core.Path.{sym, _∙_}
+-- `device::find_text` meets its contract: a list for as many records as a pool can have stands for any table. Assumes nothing.
 use native.Mathlib.Omega.{arith}
-use Rattle.pool.specs.Reading.{roomOf}
-use Rattle.checker.specs.Checking.{verdictOf}
-use Rattle.device.specs.Parts.{columnIn}
-use Rattle.device.proofs.Asked.{refused-as, text-refused, text-missing, may-look, ids-first, in-table, text-found}
 use borrow.Author.Needs.{needs}
+use Rattle.pool.proofs.Within.{numbers-below, numbers-taken, room-taken}
+use Rattle.device.proofs.Rooms.{finds-within}
 use Rattle.device.proofs.find_text.Statement.{statement}
 use Rattle.device.proofs.find_text.Tie as tie
 
-slice-aggregate-check : tie.Need-slice-aggregate-check
-slice-aggregate-check c = search needs
+numbers-for-requires : tie.Need-numbers-for-requires
+numbers-for-requires c κs = search needs
 
-check-requires : tie.Need-check-requires
-check-requires c κs = search needs
+array-borrow-prefix-list : tie.Need-array-borrow-prefix-list
+array-borrow-prefix-list c = numbers-below _ (c .before .before .args .room) 5461 21844 (c .numbers-for .ensures) (omega arith)
 
-refusal-requires : tie.Need-refusal-requires
-refusal-requires c κs = search needs
+slice-aggregate-find-text-by : tie.Need-slice-aggregate-find-text-by
+slice-aggregate-find-text-by c = numbers-taken (c .before .numbers-for .result) (c .before .before .before .args .room) 5461 21844 (c .before .numbers-for .ensures) (omega arith)
 
-same-length : tie.Need-same-length
-same-length c = search needs
+find-text-by-requires : tie.Need-find-text-by-requires
+find-text-by-requires c κs = search needs
 
 returns : tie.Need-returns
-returns c = let r = text-refused (c .before .before .before .before .before .before .before .before .before .before .args .p .now) (roomOf (c .before .before .before .before .before .before .before .before .before .before .args .table .now)) (c .before .refusal .result) (refused-as (c .before .before .before .before .before .before .before .before .before .before .args .p .now) (roomOf (c .before .before .before .before .before .before .before .before .before .before .args .table .now)) (verdictOf (c .before .before .before .before .before .check .result)) (c .before .refusal .result) (c .before .refusal .ensures) (c .before .before .before .before .before .check .ensures .0)) (c .if1 .taken) (c .before .before .before .before .before .before .before .before .before .before .args .id) in (record { number = r .0; from = r .1; to = r .2; ordered = omega arith; within = omega arith }, c .before .before .before .before .before .check .ensures .2)
-
-records-of-requires : tie.Need-records-of-requires
-records-of-requires c κs = search needs
-
-first-with-requires : tie.Need-first-with-requires
-first-with-requires c κs = let m = may-look (c .before .before .before .before .before .before .before .before .before .before .before .before .args .p .now) (c .before .before .before .before .before .before .before .before .before .before .before .before .args .table .now) (c .before .before .before .before .before .before .before .check .last .1 .0) (c .records-of .result) (sym (c .before .before .if1 .left) ∙ refused-as (c .before .before .before .before .before .before .before .before .before .before .before .before .args .p .now) (roomOf (c .before .before .before .before .before .before .before .before .before .before .before .before .args .table .now)) (verdictOf (c .before .before .before .before .before .before .before .check .result)) (c .before .before .before .refusal .result) (c .before .before .before .refusal .ensures) (c .before .before .before .before .before .before .before .check .ensures .0)) (c .records-of .ensures ∙ c .before .before .before .before .before .before .before .check .ensures .1) (c .before .before .before .before .before .before .before .check .ensures .2) in (m .0, m .1, omega arith)
-
-cast-record : tie.Need-cast-record
-cast-record c = search needs
-
-same-length-2 : tie.Need-same-length-2
-same-length-2 c = search needs
-
-returns-2 : tie.Need-returns-2
-returns-2 c = let r = text-missing (c .before .before .before .before .before .before .before .before .before .before .before .before .before .before .args .p .now) (roomOf (c .before .before .before .before .before .before .before .before .before .before .before .before .before .before .args .table .now)) (c .before .before .before .before .before .before .before .before .before .before .before .before .before .before .args .id) (sym (c .before .before .before .before .if1 .left) ∙ refused-as (c .before .before .before .before .before .before .before .before .before .before .before .before .before .before .args .p .now) (roomOf (c .before .before .before .before .before .before .before .before .before .before .before .before .before .before .args .table .now)) (verdictOf (c .before .before .before .before .before .before .before .before .before .check .result)) (c .before .before .before .before .before .refusal .result) (c .before .before .before .before .before .refusal .ensures) (c .before .before .before .before .before .before .before .before .before .check .ensures .0)) (sym (ids-first (c .before .before .before .before .before .before .before .before .before .before .before .before .before .before .args .p .now) (c .before .before .before .before .before .before .before .before .before .before .before .before .before .before .args .table .now) (c .before .before .before .before .before .before .before .before .before .check .last .1 .0) (c .before .before .records-of .result) (sym (c .before .before .before .before .if1 .left) ∙ refused-as (c .before .before .before .before .before .before .before .before .before .before .before .before .before .before .args .p .now) (roomOf (c .before .before .before .before .before .before .before .before .before .before .before .before .before .before .args .table .now)) (verdictOf (c .before .before .before .before .before .before .before .before .before .check .result)) (c .before .before .before .before .before .refusal .result) (c .before .before .before .before .before .refusal .ensures) (c .before .before .before .before .before .before .before .before .before .check .ensures .0)) (c .before .before .records-of .ensures ∙ c .before .before .before .before .before .before .before .before .before .check .ensures .1) (c .before .before .before .before .before .before .before .before .before .check .ensures .2) (c .before .first-with .result) (c .before .before .before .before .before .before .before .before .before .before .before .before .before .before .args .id) (c .before .first-with .ensures)) ∙ c .if2 .taken) in (record { number = r .0; from = r .1; to = r .2; ordered = omega arith; within = omega arith }, c .before .before .before .before .before .before .before .before .before .check .ensures .2)
-
-sub-entry : tie.Need-sub-entry
-sub-entry c = search needs
-
-mul-entry : tie.Need-mul-entry
-mul-entry c = search needs
-
-add-text-in : tie.Need-add-text-in
-add-text-in c = search needs
-
-mul-text-in : tie.Need-mul-text-in
-mul-text-in c = search needs
-
-slice-read-text-in : tie.Need-slice-read-text-in
-slice-read-text-in c = omega (arith, in-table (c .before .before .before .before .before .before .before .before .before .before .before .before .before .before .before .args .p .now) (c .before .before .before .before .before .before .before .before .before .before .before .before .before .before .before .args .table .now) (c .before .before .before .before .before .before .before .before .before .before .check .last .1 .0) (c .before .before .before .records-of .result) (sym (c .before .before .before .before .before .if1 .left) ∙ refused-as (c .before .before .before .before .before .before .before .before .before .before .before .before .before .before .before .args .p .now) (roomOf (c .before .before .before .before .before .before .before .before .before .before .before .before .before .before .before .args .table .now)) (verdictOf (c .before .before .before .before .before .before .before .before .before .before .check .result)) (c .before .before .before .before .before .before .refusal .result) (c .before .before .before .before .before .before .refusal .ensures) (c .before .before .before .before .before .before .before .before .before .before .check .ensures .0)) (c .before .before .before .records-of .ensures ∙ c .before .before .before .before .before .before .before .before .before .before .check .ensures .1) (c .before .before .before .before .before .before .before .before .before .before .check .ensures .2) (columnIn (c .before .before .before .before .before .before .before .before .before .before .check .last .1 .0) 3) (c .before .before .before .before .before .before .before .before .before .before .before .before .before .before .before .args .id) (c .before .before .first-with .result) (c .before .before .first-with .ensures) (c .before .if2 .left))
-
-mul-text-in-2 : tie.Need-mul-text-in-2
-mul-text-in-2 c = search needs
-
-slice-read-text-in-2 : tie.Need-slice-read-text-in-2
-slice-read-text-in-2 c = omega (arith, in-table (c .before .before .before .before .before .before .before .before .before .before .before .before .before .before .before .before .args .p .now) (c .before .before .before .before .before .before .before .before .before .before .before .before .before .before .before .before .args .table .now) (c .before .before .before .before .before .before .before .before .before .before .before .check .last .1 .0) (c .before .before .before .before .records-of .result) (sym (c .before .before .before .before .before .before .if1 .left) ∙ refused-as (c .before .before .before .before .before .before .before .before .before .before .before .before .before .before .before .before .args .p .now) (roomOf (c .before .before .before .before .before .before .before .before .before .before .before .before .before .before .before .before .args .table .now)) (verdictOf (c .before .before .before .before .before .before .before .before .before .before .before .check .result)) (c .before .before .before .before .before .before .before .refusal .result) (c .before .before .before .before .before .before .before .refusal .ensures) (c .before .before .before .before .before .before .before .before .before .before .before .check .ensures .0)) (c .before .before .before .before .records-of .ensures ∙ c .before .before .before .before .before .before .before .before .before .before .before .check .ensures .1) (c .before .before .before .before .before .before .before .before .before .before .before .check .ensures .2) (columnIn (c .before .before .before .before .before .before .before .before .before .before .before .check .last .1 .0) 3) (c .before .before .before .before .before .before .before .before .before .before .before .before .before .before .before .before .args .id) (c .before .before .before .first-with .result) (c .before .before .before .first-with .ensures) (c .before .before .if2 .left))
-
-text-in-requires : tie.Need-text-in-requires
-text-in-requires c κs = search needs
-
-same-length-3 : tie.Need-same-length-3
-same-length-3 c = search needs
-
-returns-3 : tie.Need-returns-3
-returns-3 c = let r = text-found (c .before .before .before .before .before .before .before .before .before .before .before .before .before .before .before .before .before .args .p .now) (c .before .before .before .before .before .before .before .before .before .before .before .before .before .before .before .before .before .args .table .now) (c .before .before .before .before .before .before .before .before .before .before .before .before .check .last .1 .0) (c .before .before .before .before .before .records-of .result) (sym (c .before .before .before .before .before .before .before .if1 .left) ∙ refused-as (c .before .before .before .before .before .before .before .before .before .before .before .before .before .before .before .before .before .args .p .now) (roomOf (c .before .before .before .before .before .before .before .before .before .before .before .before .before .before .before .before .before .args .table .now)) (verdictOf (c .before .before .before .before .before .before .before .before .before .before .before .before .check .result)) (c .before .before .before .before .before .before .before .before .refusal .result) (c .before .before .before .before .before .before .before .before .refusal .ensures) (c .before .before .before .before .before .before .before .before .before .before .before .before .check .ensures .0)) (c .before .before .before .before .before .records-of .ensures ∙ c .before .before .before .before .before .before .before .before .before .before .before .before .check .ensures .1) (c .before .before .before .before .before .before .before .before .before .before .before .before .check .ensures .2) (c .before .before .before .before .first-with .result) (c .before .before .before .before .before .before .before .before .before .before .before .before .before .before .before .before .before .args .id) (c .text-in .result) (ids-first (c .before .before .before .before .before .before .before .before .before .before .before .before .before .before .before .before .before .args .p .now) (c .before .before .before .before .before .before .before .before .before .before .before .before .before .before .before .before .before .args .table .now) (c .before .before .before .before .before .before .before .before .before .before .before .before .check .last .1 .0) (c .before .before .before .before .before .records-of .result) (sym (c .before .before .before .before .before .before .before .if1 .left) ∙ refused-as (c .before .before .before .before .before .before .before .before .before .before .before .before .before .before .before .before .before .args .p .now) (roomOf (c .before .before .before .before .before .before .before .before .before .before .before .before .before .before .before .before .before .args .table .now)) (verdictOf (c .before .before .before .before .before .before .before .before .before .before .before .before .check .result)) (c .before .before .before .before .before .before .before .before .refusal .result) (c .before .before .before .before .before .before .before .before .refusal .ensures) (c .before .before .before .before .before .before .before .before .before .before .before .before .check .ensures .0)) (c .before .before .before .before .before .records-of .ensures ∙ c .before .before .before .before .before .before .before .before .before .before .before .before .check .ensures .1) (c .before .before .before .before .before .before .before .before .before .before .before .before .check .ensures .2) (c .before .before .before .before .first-with .result) (c .before .before .before .before .before .before .before .before .before .before .before .before .before .before .before .before .before .args .id) (c .before .before .before .before .first-with .ensures)) (c .before .before .before .if2 .left) (c .text-in .ensures) in (record { number = r .0; from = r .1; to = r .2; ordered = r .3 .0; within = r .3 .1 }, c .before .before .before .before .before .before .before .before .before .before .before .before .check .ensures .2)
+returns c =
+    let a = c .before .before .before .before .before .args in
+    finds-within (a .p .now) (a .room) _ (room-taken _ (a .room) 5461 21844 (c .before .before .before .numbers-for .ensures) (omega arith)) (a .id) (c .before .find-text-by .result) (c .before .find-text-by .ensures)
 
 pub find-text-spec : {M : Type 1} → statement M
 find-text-spec =
     tie.close
     (tie.spec
-    slice-aggregate-check
-    check-requires
-    refusal-requires
-    same-length
-    returns
-    records-of-requires
-    first-with-requires
-    cast-record
-    same-length-2
-    returns-2
-    sub-entry
-    mul-entry
-    add-text-in
-    mul-text-in
-    slice-read-text-in
-    mul-text-in-2
-    slice-read-text-in-2
-    text-in-requires
-    same-length-3
-    returns-3)
+    numbers-for-requires
+    array-borrow-prefix-list
+    slice-aggregate-find-text-by
+    find-text-by-requires
+    returns)

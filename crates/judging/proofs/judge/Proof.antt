@@ -1,56 +1,39 @@
--- `judging::judge` meets its contract: a pool that is accepted is judged by the records that its table shows. Assumes nothing.
-use mathlib.Core.Path.{sym, _∙_}
+-- `judging::judge` meets its contract: a list for as many records as a pool can have stands for any table. Assumes nothing.
+use mathlib.Core.Path.{_∙_}
+use native.Mathlib.Omega.{arith}
 use mir.Syntax.{w32}
 use mir.ValLaws.{toZ-ofZ}
-use Rattle.pool.specs.Reading.{roomOf}
-use Rattle.checker.specs.Checking.{verdictOf}
-use Rattle.device.proofs.Asked.{refused-as, may-look, shows}
-use Rattle.judging.proofs.Erring.{too-large, not-accepted, judged}
 use borrow.Author.Needs.{needs}
+use Rattle.pool.proofs.Within.{numbers-below, numbers-taken, room-taken}
+use Rattle.judging.proofs.Rooms.{number-within, error-within}
 use Rattle.judging.proofs.judge.Statement.{statement}
 use Rattle.judging.proofs.judge.Tie as tie
 
+numbers-for-requires : tie.Need-numbers-for-requires
+numbers-for-requires c κs = search needs
+
+array-borrow-prefix-list : tie.Need-array-borrow-prefix-list
+array-borrow-prefix-list c = numbers-below _ (c .before .before .args .room) 5461 21844 (c .numbers-for .ensures) (omega arith)
+
+slice-aggregate-judge-by : tie.Need-slice-aggregate-judge-by
+slice-aggregate-judge-by c = numbers-taken (c .before .numbers-for .result) (c .before .before .before .args .room) 5461 21844 (c .before .numbers-for .ensures) (omega arith)
+
+judge-by-requires : tie.Need-judge-by-requires
+judge-by-requires c κs = search needs
+
 returns : tie.Need-returns
-returns c = too-large (c .before .before .before .args .p .now) (c .before .before .before .args .table .now) (c .before .before .before .args .command) (c .before .before .before .args .element) (c .before .before .before .args .ddi) (c .before .before .before .args .value) (c .if1 .taken)
-
-slice-aggregate-check : tie.Need-slice-aggregate-check
-slice-aggregate-check c = search needs
-
-check-requires : tie.Need-check-requires
-check-requires c κs = search needs
-
-refusal-requires : tie.Need-refusal-requires
-refusal-requires c κs = search needs
-
-same-length : tie.Need-same-length
-same-length c = search needs
-
-returns-2 : tie.Need-returns-2
-returns-2 c = not-accepted (c .before .before .before .before .before .before .before .before .before .before .before .args .p .now) (c .before .before .before .before .before .before .before .before .before .before .before .args .table .now) (c .before .before .before .before .before .before .before .before .before .before .before .args .command) (c .before .before .before .before .before .before .before .before .before .before .before .args .element) (c .before .before .before .before .before .before .before .before .before .before .before .args .ddi) (c .before .before .before .before .before .before .before .before .before .before .before .args .value) (c .before .before .before .before .before .before .before .before .if1 .left) (c .before .refusal .result) (refused-as (c .before .before .before .before .before .before .before .before .before .before .before .args .p .now) (roomOf (c .before .before .before .before .before .before .before .before .before .before .before .args .table .now)) (verdictOf (c .before .before .before .before .before .check .result)) (c .before .refusal .result) (c .before .refusal .ensures) (c .before .before .before .before .before .check .ensures .0)) (c .before .before .before .before .before .check .last .1 .0) (c .before .before .before .before .before .check .ensures .2) (c .if2 .taken)
-
-records-of-requires : tie.Need-records-of-requires
-records-of-requires c κs = search needs
-
-error-in-requires : tie.Need-error-in-requires
-error-in-requires c κs = may-look (c .before .before .before .before .before .before .before .before .before .before .before .before .before .args .p .now) (c .before .before .before .before .before .before .before .before .before .before .before .before .before .args .table .now) (c .before .before .before .before .before .before .before .check .last .1 .0) (c .before .records-of .result) (sym (c .before .before .if2 .left) ∙ refused-as (c .before .before .before .before .before .before .before .before .before .before .before .before .before .args .p .now) (roomOf (c .before .before .before .before .before .before .before .before .before .before .before .before .before .args .table .now)) (verdictOf (c .before .before .before .before .before .before .before .check .result)) (c .before .before .before .refusal .result) (c .before .before .before .refusal .ensures) (c .before .before .before .before .before .before .before .check .ensures .0)) (c .before .records-of .ensures ∙ c .before .before .before .before .before .before .before .check .ensures .1) (c .before .before .before .before .before .before .before .check .ensures .2)
-
-same-length-2 : tie.Need-same-length-2
-same-length-2 c = search needs
-
-returns-3 : tie.Need-returns-3
-returns-3 c = let refused = refused-as (c .before .before .before .before .before .before .before .before .before .before .before .before .before .before .args .p .now) (roomOf (c .before .before .before .before .before .before .before .before .before .before .before .before .before .before .args .table .now)) (verdictOf (c .before .before .before .before .before .before .before .before .check .result)) (c .before .before .before .before .refusal .result) (c .before .before .before .before .refusal .ensures) (c .before .before .before .before .before .before .before .before .check .ensures .0) in judged (c .before .before .before .before .before .before .before .before .before .before .before .before .before .before .args .p .now) (c .before .before .before .before .before .before .before .before .before .before .before .before .before .before .args .table .now) (c .before .before .before .before .before .before .before .before .before .before .before .before .before .before .args .command) (c .before .before .before .before .before .before .before .before .before .before .before .before .before .before .args .element) (c .before .before .before .before .before .before .before .before .before .before .before .before .before .before .args .ddi) (c .before .before .before .before .before .before .before .before .before .before .before .before .before .before .args .value) (c .before .before .before .before .before .before .before .before .before .before .before .if1 .left) (c .before .before .before .before .refusal .result) refused (c .before .before .before .before .before .before .before .before .check .last .1 .0) (c .before .before .before .before .before .before .before .before .check .ensures .2) (c .before .before .before .if2 .left) (c .before .before .records-of .result) (c .error-in .result) (rw (toZ-ofZ w32 (c .before .before .before .before .before .before .before .before .before .before .before .before .before .before .args .value) (c .before .before .before .before .before .before .before .before .before .before .before .before .before .before .fits .value)) at (c .error-in .ensures)) (shows (c .before .before .before .before .before .before .before .before .before .before .before .before .before .before .args .p .now) (c .before .before .before .before .before .before .before .before .before .before .before .before .before .before .args .table .now) (c .before .before .before .before .before .before .before .before .check .last .1 .0) (c .before .before .records-of .result) (sym (c .before .before .before .if2 .left) ∙ refused) (c .before .before .records-of .ensures ∙ c .before .before .before .before .before .before .before .before .check .ensures .1) (c .before .before .before .before .before .before .before .before .check .ensures .2))
+returns c =
+    let a = c .before .before .before .before .before .args in
+    let r = room-taken _ (a .room) 5461 21844 (c .before .before .before .numbers-for .ensures) (omega arith) in
+    let e = rw (toZ-ofZ w32 (a .value) (c .before .before .before .before .before .fits .value)) at (c .before .judge-by .ensures) in
+    (e .0 ∙ number-within (a .p .now) (a .room) _ r (a .element), e .1 ∙ error-within (a .p .now) (a .room) _ r (a .command) (a .element) (a .ddi) (a .value))
 
 pub judge-spec : {M : Type 1} → statement M
 judge-spec =
     tie.close
     (tie.spec
-    returns
-    slice-aggregate-check
-    check-requires
-    refusal-requires
-    same-length
-    returns-2
-    records-of-requires
-    error-in-requires
-    same-length-2
-    returns-3)
+    numbers-for-requires
+    array-borrow-prefix-list
+    slice-aggregate-judge-by
+    judge-by-requires
+    returns)

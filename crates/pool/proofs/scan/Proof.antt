@@ -3,7 +3,7 @@ use mathlib.Core.Path.{_≡_, refl, sym, _∙_}
 use Prim.Native.Nat.{_-_, _≤_, _<_}
 use native.Mathlib.Omega.{arith}
 use borrow.Author.Needs.{needs}
-use lib.ListN.{length, length-set}
+use lib.ListN.{length}
 use Rattle.records.proofs.Range.{extent-ends}
 use Rattle.pool.specs.Reading.{unmarked, cut, over, scanOf}
 use Rattle.pool.specs.Walk.{countFrom}
@@ -13,14 +13,14 @@ use Rattle.pool.proofs.scan.Statement.{statement}
 use Rattle.pool.proofs.scan.Tie as tie
 
 abbrev Inv-loop : tie.InvT-loop
-Inv-loop p starts₀ at₀ n₀ starts at n = (at ≤ length p) × (n ≤ at) × Standing p (countFrom 0 (scanOf p)) at n × (length starts ≡ length starts₀) × Listing p starts₀ starts at n
+Inv-loop p table₀ at₀ n₀ table at n = (at ≤ length p) × (n ≤ at) × Standing p (countFrom 0 (scanOf p)) at n × (length table ≡ length table₀) × Listing p table₀ table at n
 
 abbrev μ-loop : tie.MeasureT-loop
-μ-loop p starts₀ at₀ n₀ starts at n = length p - at
+μ-loop p table₀ at₀ n₀ table at n = length p - at
 
 loop-holds : tie.Need-loop-holds Inv-loop μ-loop
 unfolding scanOf
-loop-holds c = (omega arith, omega arith, record { turns = length (c .before .before .args .p .now); enough = omega arith; answers = refl }, refl, listing-start (c .before .before .args .p .now) (c .before .before .args .starts .now))
+loop-holds c = (omega arith, omega arith, record { turns = length (c .before .before .args .p .now); enough = omega arith; answers = refl }, refl, listing-start (c .before .before .args .p .now) (c .before .before .args .table .now))
 
 record-extent-requires : tie.Need-record-extent-requires Inv-loop μ-loop
 record-extent-requires c κs = search needs
@@ -28,11 +28,10 @@ record-extent-requires c κs = search needs
 enum-known-extent : tie.Need-enum-known-extent Inv-loop μ-loop
 enum-known-extent c = search needs
 
-cast-note : tie.Need-cast-note Inv-loop μ-loop
-cast-note c = omega (arith, c .before .before .before .before .before .before .before .before .before .pre, c .before .before .before .before .before .loop-test .taken)
-
 note-requires : tie.Need-note-requires Inv-loop μ-loop
-note-requires c κs = search needs
+note-requires c κs =
+    let r = extent-ends (c .before .before .before .before .before .before .before .before .before .args .p .now) (c .before .before .before .before .before .before .loop .at) _ (sym (c .before .before .before .before .record-extent .ensures) ∙ c .before .before .extent .given .1) in
+    (omega (arith, r), omega (arith, r, c .before .before .before .before .before .before .before .before .before .pre))
 
 add-n : tie.Need-add-n Inv-loop μ-loop
 add-n c = omega (arith, c .before .before .before .before .before .before .before .before .before .loop .inv .0, c .before .before .before .before .before .before .before .before .before .loop .inv .1)
@@ -46,7 +45,7 @@ loop-again c =
     let x = sym (c .before .before .before .before .before .before .before .record-extent .ensures) ∙ c .before .before .before .before .before .extent .given .1 in
     let r = extent-ends p (c .before .before .before .before .before .before .before .before .before .loop .at) _ x in
     let t = c .before .before .before .before .before .before .before .before .loop-test .taken in
-    (r .1, omega (arith, r, c .before .before .before .before .before .before .before .before .before .loop .inv .1), advance p _ (c .before .before .before .before .before .before .before .before .before .loop .at) (c .before .before .before .before .before .before .before .before .before .loop .n) t _ x (c .before .before .before .before .before .before .before .before .before .loop .inv .2), rw (c .before .before .note .ensures) (simp length-set (c .before .before .before .before .before .before .before .before .before .loop .inv .3)), rw (c .before .before .note .ensures) (listing-more p (c .before .before .before .before .before .before .before .before .before .before .before .before .args .starts .now) _ (c .before .before .before .before .before .before .before .before .before .loop .at) (c .before .before .before .before .before .before .before .before .before .loop .n) _ t x (c .before .before .before .before .before .before .before .before .before .loop .inv .4)))
+    (r .1, omega (arith, r, c .before .before .before .before .before .before .before .before .before .loop .inv .1), advance p _ (c .before .before .before .before .before .before .before .before .before .loop .at) (c .before .before .before .before .before .before .before .before .before .loop .n) t _ x (c .before .before .before .before .before .before .before .before .before .loop .inv .2), c .before .before .note .kept .1 .0 ∙ c .before .before .before .before .before .before .before .before .before .loop .inv .3, listing-more p (c .before .before .before .before .before .before .before .before .before .before .before .before .args .table .now) _ _ (c .before .before .before .before .before .before .before .before .before .loop .at) (c .before .before .before .before .before .before .before .before .before .loop .n) _ t x (c .before .before .note .ensures) (c .before .before .before .before .before .before .before .before .before .loop .inv .4))
 
 enum-told : tie.Need-enum-told Inv-loop μ-loop
 enum-told c = search needs
@@ -85,7 +84,7 @@ same-length-4 : tie.Need-same-length-4 Inv-loop μ-loop
 same-length-4 c = c .before .loop .inv .3
 
 returns-4 : tie.Need-returns-4 Inv-loop μ-loop
-returns-4 c = (finished (c .before .before .before .before .args .p .now) _ (c .before .loop .at) (c .before .loop .n) (c .loop-test .left) (c .before .loop .inv .2), listing-end (c .before .before .before .before .args .p .now) (c .before .before .before .before .args .starts .now) _ (c .before .loop .at) (c .before .loop .n) (c .loop-test .left) (c .before .loop .inv .4))
+returns-4 c = (finished (c .before .before .before .before .args .p .now) _ (c .before .loop .at) (c .before .loop .n) (c .loop-test .left) (c .before .loop .inv .2), listing-end (c .before .before .before .before .args .p .now) (c .before .before .before .before .args .table .now) _ (c .before .loop .at) (c .before .loop .n) (c .loop-test .left) (c .before .loop .inv .4))
 
 pub scan-spec : {M : Type 1} → statement M
 scan-spec =
@@ -96,7 +95,6 @@ scan-spec =
     loop-holds
     record-extent-requires
     enum-known-extent
-    cast-note
     note-requires
     add-n
     loop-less

@@ -1,0 +1,2 @@
+-- What the contracts of `device_pool` cite.
+pub mod Tables

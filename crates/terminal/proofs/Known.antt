@@ -1,0 +1,56 @@
+-- What activating says of the session that is asked in the place of a C caller's value (`sessionIn`), said of the value itself: a value with an unknown stage or mark is asked as one that can't arise, which leaves the area and the table.
+-- Assumes nothing.
+use Prim.Native.Nat.{ℕ}
+use mathlib.Core.Bool.{Bool, true, false}
+use mathlib.Core.List.{List}
+use mathlib.Core.Path.{_≡_, refl}
+use Rattle.session.specs.Calls.{impossible, activateOf, isChecked, keptAfter, activatedRecords}
+use Rattle.session.specs.declared.Session.{Session}
+use Rattle.session.specs.declared.Stage.the-variants.{Idle}
+use Rattle.working_table.specs.declared.Record.{Record}
+use Rattle.terminal.specs.Sessions.{isKnown, valueOf, outcome, left, leftRecords, sessionIn}
+use Rattle.terminal.specs.declared.sessions.ClientSession.{ClientSession}
+
+abbrev never : Session
+never = record { stage = Idle; announced = 65536; received = 0; kept = 0; active = false }
+
+-- it is refused before checking is reached
+unchecked : (ls lk : ℕ) → isChecked never ls lk ≡ false
+unfolding isChecked impossible
+unchecked ls lk = refl
+
+module _ (v : ClientSession) where
+  when-known : isKnown v ≡ true → sessionIn v ≡ valueOf v
+  unfolding sessionIn
+  when-known e = rw e
+
+  when-unknown : isKnown v ≡ false → sessionIn v ≡ never
+  unfolding sessionIn
+  when-unknown e = rw e
+
+  -- ---- the answer
+  outcome-by : (b : Bool) → isKnown v ≡ b → (staging : List ℕ) (lk room : ℕ) → outcome v (activateOf (sessionIn v) staging lk room) ≡ outcome v (activateOf (valueOf v) staging lk room)
+  unfolding outcome
+  outcome-by true e staging lk room = rw (when-known e)
+  outcome-by false e staging lk room = rw e
+
+  pub outcome-in : (staging : List ℕ) (lk room : ℕ) → outcome v (activateOf (sessionIn v) staging lk room) ≡ outcome v (activateOf (valueOf v) staging lk room)
+  outcome-in = outcome-by (isKnown v) refl
+
+  -- ---- the kept area
+  kept-by : (b : Bool) → isKnown v ≡ b → (staging kept : List ℕ) (room : ℕ) → keptAfter (sessionIn v) staging kept room ≡ left v (keptAfter (valueOf v) staging kept room) kept
+  unfolding left keptAfter
+  kept-by true e staging kept room = rw (when-known e, e)
+  kept-by false e staging kept room = rw (when-unknown e, e, unchecked)
+
+  pub kept-in : (staging kept : List ℕ) (room : ℕ) → keptAfter (sessionIn v) staging kept room ≡ left v (keptAfter (valueOf v) staging kept room) kept
+  kept-in = kept-by (isKnown v) refl
+
+  -- ---- the table
+  records-by : (b : Bool) → isKnown v ≡ b → (staging : List ℕ) (lk : ℕ) (table : List Record) → activatedRecords (sessionIn v) staging lk table ≡ leftRecords v (activatedRecords (valueOf v) staging lk table) table
+  unfolding leftRecords activatedRecords
+  records-by true e staging lk table = rw (when-known e, e)
+  records-by false e staging lk table = rw (when-unknown e, e, unchecked)
+
+  pub records-in : (staging : List ℕ) (lk : ℕ) (table : List Record) → activatedRecords (sessionIn v) staging lk table ≡ leftRecords v (activatedRecords (valueOf v) staging lk table) table
+  records-in = records-by (isKnown v) refl

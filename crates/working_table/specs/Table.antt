@@ -1,0 +1,22 @@
+-- The working table as a list of records: document 01, "Reading a pool". Definitions only.
+use Prim.Native.Nat.{ℕ}
+use mathlib.Core.Bool.{Bool, true, false}
+use mathlib.Core.List.{List, map}
+use lib.Dec.{eqb}
+use lib.ListN.{length}
+use lib.Seq.{sets}
+use Rattle.pool.specs.Reading.{Entry, scanOf, entriesIn, readOf}
+use Rattle.working_table.specs.declared.Record.{Record}
+
+-- an entry of a pool's division as an element of the table: start, length, kind and ID
+abbrev pub recordOf : Entry → Record
+recordOf e = record { start = e .start; length = e .size; kind = e .kind; id = e .id }
+
+abbrev pub pickRecords : Bool → List Record → List Record → List Record
+pickRecords true a b = a
+pickRecords false a b = b
+
+-- the table after reading: one entry for each record from its start where the pool is read, later entries as they were; else
+-- unchanged. It has room for as many records as it has entries
+unfoldable pub recordsAfter : List ℕ → List Record → List Record
+recordsAfter p table = pickRecords (eqb (readOf p (length table) .number) 0) (sets table 0 (map recordOf (entriesIn (scanOf p)))) table
