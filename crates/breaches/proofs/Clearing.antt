@@ -34,12 +34,12 @@ use Rattle.breaches.proofs.Tabled.{starts, kinds, ids, ids-again, names
 
 -- ---- such rows put nothing
 
-up-to-clear : (n : ℕ) (w : Row) (m : ℕ) → ((j : ℕ) → j < m → w .breach j ≡ false) → upTo n w m ≡ []
+pub up-to-clear : (n : ℕ) (w : Row) (m : ℕ) → ((j : ℕ) → j < m → w .breach j ≡ false) → upTo n w m ≡ []
 unfolding upTo
 up-to-clear n w zero h = refl
 up-to-clear n w (suc m) h = rw (up-to-clear n w m (λ (j : ℕ) (l : j < m). h j (omega arith)), h m (omega arith))
 
-in-clear : (n : ℕ) (ws : List Row) → AllClear ws → inRows n ws ≡ []
+pub in-clear : (n : ℕ) (ws : List Row) → AllClear ws → inRows n ws ≡ []
 unfolding inRows
 in-clear n [] a = refl
 in-clear n (w ∷ ws) a = rw (up-to-clear n w (w .size) (a .0), in-clear n ws (a .1))
@@ -53,7 +53,7 @@ clear-then (x ∷ xs) ys a b = (a .0, clear-then xs ys (a .1) b)
 
 -- ---- tests that deny a breach
 
-and-false : (a : Bool) → a && false ≡ false
+pub and-false : (a : Bool) → a && false ≡ false
 and-false true = refl
 and-false false = refl
 
@@ -165,65 +165,68 @@ doubled-not tag n m a l = rw (among-none tag (tag m) m (λ (j : ℕ) (b : j < m)
 list-clear : (tag : ℕ → ℕ) (n : ℕ) → Apart tag n → (again endless : Bool) → again ≡ false → endless ≡ false → AllClear (listRows again endless tag n)
 list-clear tag n a again endless e f = (λ m l. e, (λ m l. f, (λ m l. doubled-not tag n m a l, tt)))
 
-pub element-clear : (p table : List ℕ) (count : ℕ) (index numbers ups : List ℕ) → Prepared p table count index numbers ups → (i : ℕ) → i < count → (e : DeviceElement)
-    → e ≡ elementOf p (getD table (i * width) 0) → e .number < 65536 → AllClear (fieldRows p e) → isParent (kindIn table (namedIn index (e .parent))) ≡ true
-    → getD numbers (e .number) 0 ≡ i + 1 → getD ups (i + 1) 0 ≡ 0
-    → Apart (λ (m : ℕ). tagOf p (shown table count) (entryNamed p (shown table count) (getD table (i * width) 0) m)) (e .entries)
-    → AllClear (elementRows p (shown table count) i (elementOf p (startAt (shown table count) i)))
-element-clear p table count index numbers ups w i h e is low own right number up apart =
-    let es = shown table count in
-    let at = getD table (i * width) 0 in
-    let again : repeats (elementKey p es) (suc (e .number)) i (length es) ≡ false = sym (numbers-again table count p numbers (w .elements) (e .number) i low) ∙ rw (eq-eqb (getD numbers (e .number) 0) (i + 1) number) in
-    let endless : not (eqb (climb (parentOf p es) (length es) (suc i)) 0) ≡ false = sym (ends-not table count p ups (w .chains) i h) ∙ rw up in
-    let parent : isParent (kindOf es (named es (e .parent))) ≡ true = sym (ap isParent (ap (kindIn table) (names table count index (w .ids) (e .parent)) ∙ kind-named table count index (w .ids) (e .parent))) ∙ right in
+pub element-clear : (p : List ℕ) (es : List Entry) (i at : ℕ) (e : DeviceElement) → at ≡ startAt es i → e ≡ elementOf p at → AllClear (fieldRows p e)
+    → isParent (kindOf es (named es (e .parent))) ≡ true → repeats (elementKey p es) (suc (e .number)) i (length es) ≡ false
+    → not (eqb (climb (parentOf p es) (length es) (suc i)) 0) ≡ false → Apart (λ (m : ℕ). tagOf p es (entryNamed p es at m)) (e .entries)
+    → AllClear (elementRows p es i (elementOf p (startAt es i)))
+element-clear p es i at e starts-at is own parent again endless apart =
     let references = referenceRows (kindOf es) (named es (e .parent)) (entryNamed p es at) (e .entries) in
     let tag : ℕ → ℕ = λ (m : ℕ). tagOf p es (entryNamed p es at m) in
     let list = listRows (repeats (elementKey p es) (suc (e .number)) i (length es)) (not (eqb (climb (parentOf p es) (length es) (suc i)) 0)) tag (e .entries) in
-    rw (← starts table count i h, ← is)
+    rw (← starts-at, ← is)
     (clear-then (fieldRows p e) (references ++ list) own
     (clear-then references list
     (references-clear es (named es (e .parent)) (entryNamed p es at) (e .entries) parent
     (λ (m : ℕ) (l : m < e .entries). tagged p es (entryNamed p es at m) (apart .some m l)))
     (list-clear tag (e .entries) apart _ _ again endless)))
 
+pub element-prepared : (p table : List ℕ) (count : ℕ) (index numbers ups : List ℕ) → Prepared p table count index numbers ups → (i : ℕ) → i < count → (e : DeviceElement)
+    → e ≡ elementOf p (getD table (i * width) 0) → e .number < 65536 → AllClear (fieldRows p e) → isParent (kindIn table (namedIn index (e .parent))) ≡ true
+    → getD numbers (e .number) 0 ≡ i + 1 → getD ups (i + 1) 0 ≡ 0
+    → Apart (λ (m : ℕ). tagOf p (shown table count) (entryNamed p (shown table count) (getD table (i * width) 0) m)) (e .entries)
+    → AllClear (elementRows p (shown table count) i (elementOf p (startAt (shown table count) i)))
+element-prepared p table count index numbers ups w i h e is low own right number up apart =
+    let es = shown table count in
+    let again : repeats (elementKey p es) (suc (e .number)) i (length es) ≡ false = sym (numbers-again table count p numbers (w .elements) (e .number) i low) ∙ rw (eq-eqb (getD numbers (e .number) 0) (i + 1) number) in
+    let endless : not (eqb (climb (parentOf p es) (length es) (suc i)) 0) ≡ false = sym (ends-not table count p ups (w .chains) i h) ∙ rw up in
+    let parent : isParent (kindOf es (named es (e .parent))) ≡ true = sym (ap isParent (ap (kindIn table) (names table count index (w .ids) (e .parent)) ∙ kind-named table count index (w .ids) (e .parent))) ∙ right in
+    element-clear p es i (getD table (i * width) 0) e (starts table count i h) is own parent again endless apart
+
 -- ---- tags one after the other, and the places where they leave the record's number
 
-pub record Placed (tag : ℕ → ℕ) (number m : ℕ) (seen : List ℕ) : Type 0 where
+pub record Placed (place tag : ℕ → ℕ) (number m : ℕ) (seen : List ℕ) : Type 0 where
   pub apart : Apart tag m
-  pub met : (j : ℕ) → j < m → getD seen (tag j % 1024) 0 ≡ number
+  pub met : (j : ℕ) → j < m → getD seen (place (tag j)) 0 ≡ number
 
-pub placed-none : (tag : ℕ → ℕ) (number : ℕ) (seen : List ℕ) → Placed tag number 0 seen
-placed-none tag number seen =
+pub placed-none : (place tag : ℕ → ℕ) (number : ℕ) (seen : List ℕ) → Placed place tag number 0 seen
+placed-none place tag number seen =
     record { apart = record { some = λ m l e. omega (arith, l); apart = λ j m b l e. omega (arith, l) }; met = λ j l. absurd (omega (arith, l)) }
 
 -- a tag whose place is free is a new one
-module _ (tag : ℕ → ℕ) (number m : ℕ) (seen : List ℕ) (room : 1024 ≤ length seen) (placed : Placed tag number m seen) where
-  pub placed-more : (x : ℕ) → x ≡ tag m → (x ≡ 0 → ⊥) → (getD seen (x % 1024) 0 ≡ number → ⊥) → Placed tag number (m + 1) (set seen (x % 1024) number)
-  placed-more x is some free =
+module _ (place tag : ℕ → ℕ) (number m : ℕ) (seen : List ℕ) (placed : Placed place tag number m seen) where
+  pub placed-more : (x : ℕ) → x ≡ tag m → place x < length seen → (x ≡ 0 → ⊥) → (getD seen (place x) 0 ≡ number → ⊥) → Placed place tag number (m + 1) (set seen (place x) number)
+  placed-more x is inside some free =
       record {
         apart = record {
           some = below-more _ _ (placed .apart .some) (λ (e : tag m ≡ 0). some (is ∙ e));
           apart = λ (j k : ℕ) (b : j < k) (l : k < m + 1). ⊎-elim (λ (s : k ≡ m). new j k b s) (λ (s : k < m). placed .apart .apart j k b s) (eq-or-lt-of-le (omega arith));
         };
-        met = λ (j : ℕ) (l : j < m + 1). ⊎-elim (λ (s : j ≡ m). here j s) (λ (s : j < m). there j s (ℕ-discrete (tag j % 1024) (x % 1024))) (eq-or-lt-of-le (omega arith));
+        met = λ (j : ℕ) (l : j < m + 1). ⊎-elim (λ (s : j ≡ m). here j s) (λ (s : j < m). there j s (ℕ-discrete (place (tag j)) (place x))) (eq-or-lt-of-le (omega arith));
       }
     where
-      inside : x % 1024 < length seen
-      inside = omega arith
-
       new : (j k : ℕ) → j < k → k ≡ m → tag j ≡ tag k → ⊥
       new j k b s e =
           let same : tag j ≡ x = e ∙ ap tag s ∙ sym is in
-          free (sym (ap (λ (t : ℕ). getD seen (t % 1024) 0) same) ∙ placed .met j (omega arith))
+          free (sym (ap (λ (t : ℕ). getD seen (place t) 0) same) ∙ placed .met j (omega arith))
 
-      here : (j : ℕ) → j ≡ m → getD (set seen (x % 1024) number) (tag j % 1024) 0 ≡ number
+      here : (j : ℕ) → j ≡ m → getD (set seen (place x) number) (place (tag j)) 0 ≡ number
       here j s =
           let same : tag j ≡ x = ap tag s ∙ sym is in
-          rw same (getD-set-same seen (x % 1024) number 0 inside)
+          rw same (getD-set-same seen (place x) number 0 inside)
 
-      there : (j : ℕ) → j < m → Dec (tag j % 1024 ≡ x % 1024) → getD (set seen (x % 1024) number) (tag j % 1024) 0 ≡ number
-      there j s (yes e) = rw e (getD-set-same seen (x % 1024) number 0 inside)
-      there j s (no n) = getD-set-other seen (x % 1024) (tag j % 1024) number 0 n ∙ placed .met j s
+      there : (j : ℕ) → j < m → Dec (place (tag j) ≡ place x) → getD (set seen (place x) number) (place (tag j)) 0 ≡ number
+      there j s (yes e) = rw e (getD-set-same seen (place x) number 0 inside)
+      there j s (no n) = getD-set-other seen (place x) (place (tag j)) number 0 n ∙ placed .met j s
 
 -- neither of two numbers is as it is asked
 pub neither : {a b x y : ℕ} → eqb a x || eqb b y ≡ false → (a ≡ x → ⊥) × (b ≡ y → ⊥)

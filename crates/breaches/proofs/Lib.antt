@@ -4,3 +4,4 @@ pub mod Walking
 pub mod Tabled
 pub mod ByKind
 pub mod Clearing
+pub mod Leading

@@ -2,4 +2,5 @@
 mod clean;
 pub mod element;
 mod fields;
+pub mod lead;
 pub mod record;

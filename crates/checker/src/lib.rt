@@ -1,5 +1,8 @@
 // Checking a pool against the rule table: the full count of faults, and the first ones in a lent buffer.
 use pool::Outcome;
+
+mod sound;
+
 ghost use mathlib.Core.Path.{_≡_};
 ghost use mathlib.Core.Bool.{true, cond};
 ghost use Prim.Native.Nat.{ℕ, _+_, _*_, _≤_, _<_};
@@ -16,7 +19,8 @@ ghost use Rattle.naming.specs.Lists.{shown, Blank, Roomy};
 ghost use Rattle.rules.specs.Table.{poolRows, breachesIn};
 ghost use Rattle.checker.specs.Checking.{verdictOf, recordsIn, checkOf, countOf, faultsAfter};
 ghost use Rattle.breaches.specs.Lists.{Prepared, Lent};
-ghost use Rattle.checker.specs.Trying.{Told};
+ghost use Rattle.breaches.specs.Leading.{Led};
+ghost use Rattle.checker.specs.Trying.{Completes, Told};
 
 // What checking answers: how many records the table now holds and the full count of faults, or why the pool cannot be read
 // and where. The refusals stand in the order of their numbers, 1 to 7.
@@ -86,25 +90,28 @@ fn put_pool(p: &[u8], table: &[u16], count: usize, device: u16, faults: &mut [u1
     faults::put_if(lacks_machine(p, table, count), faults, n, 0, 11, 1)
 }
 
-// Every fault of a pool that has been prepared, in order.
-fn put_all(
+// The faults of a pool that has been prepared, in order, from a record on: the records before have none. The first device's
+// number is given, 0 where there is none.
+fn put_rest(
     p: &[u8],
     table: &[u16],
     count: usize,
     index: &[u16],
     numbers: &[u16],
     ups: &[u16],
+    device: u16,
     room: usize,
     list: &mut [u16],
     seen: &mut [u16],
+    from: usize,
     faults: &mut [u16],
+    start: usize,
 ) -> usize
-    requires { ⌜ Prepared (now p) (now table) count (now index) (now numbers) (now ups) × Roomy (now p) (shown (now table) count) room × Lent room (now list) (now seen) ⌝ }
-    ensures { λ r. ⌜ Emits (now (faults .entry)) 0 (breachesIn (now (p .entry)) (shown (now (table .entry)) count)) (now (faults .exit)) r ⌝ }
+    requires { ⌜ Prepared (now p) (now table) count (now index) (now numbers) (now ups) × Roomy (now p) (shown (now table) count) room × Lent room (now list) (now seen) × (device ≡ firstOf (kindAt (shown (now table) count)) 1 count) × Led (now p) (shown (now table) count) count from × (start ≤ 2) ⌝ }
+    ensures { λ r. ⌜ Completes (now (p .entry)) (shown (now (table .entry)) count) (now (faults .entry)) start (now (faults .exit)) r ⌝ }
 {
-    let device = first_device(table, count);
-    let mut n = put_pool(p, table, count, device, faults);
-    let mut i: usize = 0;
+    let mut n = start;
+    let mut i = from;
     while i < count {
         n = breaches::record::put_record(
             p,
@@ -150,9 +157,17 @@ fn prepare(
 }
 
 // Short lists, for a short pool with small IDs: clearing long ones would take most of the time.
-fn try_short(p: &[u8], table: &[u16], count: usize, faults: &mut [u16]) -> Tried
-    requires { ⌜ (count * width ≤ length (now table)) × (count ≤ 8192) ⌝ }
-    ensures { λ r. ⌜ Told (breachesIn (now (p .entry)) (shown (now (table .entry)) count)) (now (faults .entry)) (now (faults .exit)) r ⌝ }
+fn try_short(
+    p: &[u8],
+    table: &[u16],
+    count: usize,
+    device: u16,
+    from: usize,
+    faults: &mut [u16],
+    start: usize,
+) -> Tried
+    requires { ⌜ (count * width ≤ length (now table)) × (count ≤ 8192) × (device ≡ firstOf (kindAt (shown (now table) count)) 1 count) × Led (now p) (shown (now table) count) count from × (start ≤ 2) ⌝ }
+    ensures { λ r. ⌜ Told (now (p .entry)) (shown (now (table .entry)) count) (now (faults .entry)) start (now (faults .exit)) r ⌝ }
 {
     if 127 < count {
         return Tried::Short;
@@ -165,24 +180,35 @@ fn try_short(p: &[u8], table: &[u16], count: usize, faults: &mut [u16]) -> Tried
     }
     let mut list = [0u16; 128];
     let mut seen = [0u16; 1024];
-    Tried::Counted(put_all(
+    Tried::Counted(put_rest(
         p,
         table,
         count,
         &index,
         &numbers,
         &ups,
+        device,
         128,
         &mut list,
         &mut seen,
+        from,
         faults,
+        start,
     ))
 }
 
 // Lists for a pool of any length with the IDs and element numbers that implements use.
-fn try_middle(p: &[u8], table: &[u16], count: usize, faults: &mut [u16]) -> Tried
-    requires { ⌜ (count * width ≤ length (now table)) × (count ≤ 8192) ⌝ }
-    ensures { λ r. ⌜ Told (breachesIn (now (p .entry)) (shown (now (table .entry)) count)) (now (faults .entry)) (now (faults .exit)) r ⌝ }
+fn try_middle(
+    p: &[u8],
+    table: &[u16],
+    count: usize,
+    device: u16,
+    from: usize,
+    faults: &mut [u16],
+    start: usize,
+) -> Tried
+    requires { ⌜ (count * width ≤ length (now table)) × (count ≤ 8192) × (device ≡ firstOf (kindAt (shown (now table) count)) 1 count) × Led (now p) (shown (now table) count) count from × (start ≤ 2) ⌝ }
+    ensures { λ r. ⌜ Told (now (p .entry)) (shown (now (table .entry)) count) (now (faults .entry)) start (now (faults .exit)) r ⌝ }
 {
     let mut index = [0u16; 8192];
     let mut numbers = [0u16; 4096];
@@ -192,24 +218,35 @@ fn try_middle(p: &[u8], table: &[u16], count: usize, faults: &mut [u16]) -> Trie
     }
     let mut list = [0u16; 1024];
     let mut seen = [0u16; 1024];
-    Tried::Counted(put_all(
+    Tried::Counted(put_rest(
         p,
         table,
         count,
         &index,
         &numbers,
         &ups,
+        device,
         1024,
         &mut list,
         &mut seen,
+        from,
         faults,
+        start,
     ))
 }
 
 // Lists for every pool.
-fn count_long(p: &[u8], table: &[u16], count: usize, faults: &mut [u16]) -> usize
-    requires { ⌜ (count * width ≤ length (now table)) × (count ≤ 8192) × Roomy (now p) (shown (now table) count) 32768 ⌝ }
-    ensures { λ r. ⌜ Emits (now (faults .entry)) 0 (breachesIn (now (p .entry)) (shown (now (table .entry)) count)) (now (faults .exit)) r ⌝ }
+fn count_long(
+    p: &[u8],
+    table: &[u16],
+    count: usize,
+    device: u16,
+    from: usize,
+    faults: &mut [u16],
+    start: usize,
+) -> usize
+    requires { ⌜ (count * width ≤ length (now table)) × (count ≤ 8192) × (device ≡ firstOf (kindAt (shown (now table) count)) 1 count) × Led (now p) (shown (now table) count) count from × (start ≤ 2) × Roomy (now p) (shown (now table) count) 32768 ⌝ }
+    ensures { λ r. ⌜ Completes (now (p .entry)) (shown (now (table .entry)) count) (now (faults .entry)) start (now (faults .exit)) r ⌝ }
 {
     let mut index = [0u16; 65536];
     let mut numbers = [0u16; 65536];
@@ -219,34 +256,63 @@ fn count_long(p: &[u8], table: &[u16], count: usize, faults: &mut [u16]) -> usiz
     }
     let mut list = [0u16; 32768];
     let mut seen = [0u16; 32768];
-    put_all(
+    put_rest(
         p,
         table,
         count,
         &index,
         &numbers,
         &ups,
+        device,
         32768,
         &mut list,
         &mut seen,
+        from,
         faults,
+        start,
     )
 }
 
-// Counts and puts the faults of a pool that has been read into a table, with the shortest lists that do.
+// Counts and puts the faults of the records from one on, with the shortest lists that do.
+fn count_rest(
+    p: &[u8],
+    table: &[u16],
+    count: usize,
+    device: u16,
+    from: usize,
+    faults: &mut [u16],
+    start: usize,
+) -> usize
+    requires { ⌜ (count * width ≤ length (now table)) × (count ≤ 8192) × (device ≡ firstOf (kindAt (shown (now table) count)) 1 count) × Led (now p) (shown (now table) count) count from × (start ≤ 2) × Roomy (now p) (shown (now table) count) 32768 ⌝ }
+    ensures { λ r. ⌜ Completes (now (p .entry)) (shown (now (table .entry)) count) (now (faults .entry)) start (now (faults .exit)) r ⌝ }
+{
+    let short = try_short(p, table, count, device, from, faults, start);
+    if let Tried::Counted(n) = short {
+        return n;
+    }
+    let middle = try_middle(p, table, count, device, from, faults, start);
+    if let Tried::Counted(n) = middle {
+        return n;
+    }
+    count_long(p, table, count, device, from, faults, start)
+}
+
+// Counts and puts the faults of a pool that has been read into a table. Where the pool as a whole has none, most often no
+// record has one.
 fn count_faults(p: &[u8], table: &[u16], count: usize, faults: &mut [u16]) -> usize
     requires { ⌜ (count * width ≤ length (now table)) × (count ≤ 8192) × Roomy (now p) (shown (now table) count) 32768 ⌝ }
     ensures { λ r. ⌜ Emits (now (faults .entry)) 0 (breachesIn (now (p .entry)) (shown (now (table .entry)) count)) (now (faults .exit)) r ⌝ }
 {
-    let short = try_short(p, table, count, faults);
-    if let Tried::Counted(n) = short {
-        return n;
+    let device = first_device(table, count);
+    let start = put_pool(p, table, count, device, faults);
+    if 0 < start {
+        return count_rest(p, table, count, device, 0, faults, start);
     }
-    let middle = try_middle(p, table, count, faults);
-    if let Tried::Counted(n) = middle {
-        return n;
+    let from = sound::leading(p, table, count, device);
+    if from == count {
+        return start;
     }
-    count_long(p, table, count, faults)
+    count_rest(p, table, count, device, from, faults, start)
 }
 
 // Checks a pool by a list of numbers in the place of a table, which is free after a refusal, and puts as many faults as fit into

@@ -13,9 +13,12 @@ use Rattle.records.specs.Fields.{elementOf}
 use Rattle.pool.specs.Reading.{Entry}
 use Rattle.naming.specs.Naming.{firstOf, numberKey}
 use Rattle.naming.specs.Lists.{entryIn, shown, kindIn, Indexed, IndexedBelow, Roomy}
+use Rattle.naming.specs.Records.{idAt}
+use Rattle.naming.specs.Links.{linkOf, Linked}
 use Rattle.naming.specs.Steps.{entered, numberIn, RoomIn}
 use Rattle.naming.proofs.First.{first-other, first-kept, first-here, first-ext}
 use Rattle.naming.proofs.Shown.{shown-long, shown-at}
+use Rattle.naming.proofs.Links.{link-some}
 
 module _ (index : List ℕ) (key number : ℕ) where
   pub entered-new : getD index key 0 ≡ 0 → set index key number ≡ entered index key number
@@ -35,25 +38,36 @@ module _ (index : List ℕ) (key number : ℕ) where
       go (yes e) = ap length (sym (entered-new e)) ∙ length-set index key number
       go (no h) = ap length (sym (entered-old h))
 
--- a list that is right under a key after i records, and under the key of record i, is right after that record
-module _ (key : ℕ → ℕ) (index : List ℕ) (i k : ℕ) (has : key i ≡ k) (inside : k < length index) (own : getD index k 0 ≡ firstOf key k i) where
-  entered-more : (x : ℕ) → getD index x 0 ≡ firstOf key x i → getD (entered index k (i + 1)) x 0 ≡ firstOf key x (i + 1)
-  entered-more x h = go (ℕ-discrete (getD index k 0) 0) (ℕ-discrete x k)
-    where
-      other : (x ≡ k → ⊥) → firstOf key x (i + 1) ≡ firstOf key x i
-      other q = first-other key x i (λ (w : key i ≡ x). q (sym w ∙ has))
+-- a list that is right under a key after i records, and under the key of record i, is right after that record. What stands in
+-- it for a record's number is free, but that it is 0 for 0 alone
+module _ (f : ℕ → ℕ) (none : f 0 ≡ 0) (only : (r : ℕ) → f r ≡ 0 → r ≡ 0) where
+  module _ (key : ℕ → ℕ) (index : List ℕ) (i k : ℕ) (has : key i ≡ k) (inside : k < length index) (own : getD index k 0 ≡ f (firstOf key k i)) where
+    entered-more : (x : ℕ) → getD index x 0 ≡ f (firstOf key x i) → getD (entered index k (f (i + 1))) x 0 ≡ f (firstOf key x (i + 1))
+    entered-more x h = go (ℕ-discrete (getD index k 0) 0) (ℕ-discrete x k)
+      where
+        other : (x ≡ k → ⊥) → firstOf key x (i + 1) ≡ firstOf key x i
+        other q = first-other key x i (λ (w : key i ≡ x). q (sym w ∙ has))
 
-      go : Dec (getD index k 0 ≡ 0) → Dec (x ≡ k) → getD (entered index k (i + 1)) x 0 ≡ firstOf key x (i + 1)
-      go (yes z) (yes q) =
-          rw (q, ← entered-new index k (i + 1) z) (getD-set-same index k (i + 1) 0 inside ∙ sym (first-here key k i (sym own ∙ z) has))
-      go (yes z) (no q) =
-          rw (← entered-new index k (i + 1) z) (getD-set-other index k x (i + 1) 0 q ∙ h ∙ sym (other q))
-      go (no z) (yes q) =
-          rw (← entered-old index k (i + 1) z) (h ∙ sym (first-kept key x i (λ (w : firstOf key x i ≡ 0). z (ap (λ (y : ℕ). getD index y 0) (sym q) ∙ h ∙ w))))
-      go (no z) (no q) = rw (← entered-old index k (i + 1) z) (h ∙ sym (other q))
+        go : Dec (getD index k 0 ≡ 0) → Dec (x ≡ k) → getD (entered index k (f (i + 1))) x 0 ≡ f (firstOf key x (i + 1))
+        go (yes z) (yes q) =
+            rw (q, ← entered-new index k (f (i + 1)) z) (getD-set-same index k (f (i + 1)) 0 inside ∙ ap f (sym (first-here key k i (only (firstOf key k i) (sym own ∙ z)) has)))
+        go (yes z) (no q) =
+            rw (← entered-new index k (f (i + 1)) z) (getD-set-other index k x (f (i + 1)) 0 q ∙ h ∙ ap f (sym (other q)))
+        go (no z) (yes q) =
+            rw (← entered-old index k (f (i + 1)) z) (h ∙ ap f (sym (first-kept key x i (λ (w : firstOf key x i ≡ 0). z (ap (λ (y : ℕ). getD index y 0) (sym q) ∙ h ∙ ap f w ∙ none)))))
+        go (no z) (no q) = rw (← entered-old index k (f (i + 1)) z) (h ∙ ap f (sym (other q)))
+
+-- the record's number itself
+itself : ℕ → ℕ
+itself r = r
 
 pub indexed-more : (key : ℕ → ℕ) (index : List ℕ) (i k : ℕ) → key i ≡ k → k < length index → Indexed key i index → Indexed key (i + 1) (entered index k (i + 1))
-indexed-more key index i k e l h x = entered-more key index i k e l (h k) x (h x)
+unfolding itself
+indexed-more key index i k e l h x = entered-more itself refl (λ (r : ℕ) (z : r ≡ 0). z) key index i k e l (h k) x (h x)
+
+-- a link to it
+pub linked-more : (es : List Entry) (links : List ℕ) (i k v : ℕ) → idAt es i ≡ k → k < length links → v ≡ linkOf es (i + 1) → Linked es i links → Linked es (i + 1) (entered links k v)
+linked-more es links i k v e l is h x = rw is (entered-more (linkOf es) refl (link-some es) (idAt es) links i k e l (h k) x (h x))
 
 -- the element number by the table is the key of the record that the table shows
 pub number-shown : (p table : List ℕ) (n i : ℕ) → i < n → numberIn p table i ≡ numberKey p (shown table n) i
@@ -72,7 +86,8 @@ indexed-below-other bound key index i e h x l =
     h x l ∙ sym (first-other key x i (λ (w : key i ≡ x). omega arith))
 
 pub indexed-below-more : (bound : ℕ) (key : ℕ → ℕ) (index : List ℕ) (i k : ℕ) → key i ≡ k → k < bound → k < length index → IndexedBelow bound key i index → IndexedBelow bound key (i + 1) (entered index k (i + 1))
-indexed-below-more bound key index i k e b l h x m = entered-more key index i k e l (h k b) x (h x m)
+unfolding itself
+indexed-below-more bound key index i k e b l h x m = entered-more itself refl (λ (r : ℕ) (z : r ≡ 0). z) key index i k e l (h k b) x (h x m)
 
 pub indexed-below-shown : (bound : ℕ) (p table index : List ℕ) (n : ℕ) → IndexedBelow bound (numberIn p table) n index → IndexedBelow bound (numberKey p (shown table n)) n index
 indexed-below-shown bound p table index n h x l =

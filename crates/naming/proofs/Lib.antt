@@ -1,6 +1,7 @@
 -- What belongs to no one function.
 pub mod First
 pub mod Shown
+pub mod Links
 pub mod Climb
 pub mod Named
 pub mod Entering

@@ -2,4 +2,5 @@
 pub mod Records
 pub mod Naming
 pub mod Lists
+pub mod Links
 pub mod Steps

@@ -8,6 +8,7 @@ ghost use Rattle.pool.specs.Reading.{width};
 ghost use Rattle.naming.specs.Records.{idAt};
 ghost use Rattle.naming.specs.Naming.{numberKey, parentOf};
 ghost use Rattle.naming.specs.Lists.{shown, kindIn, Blank, Indexed, IndexedBelow, Ended, Roomy};
+ghost use Rattle.naming.specs.Links.{linkKind, Linked};
 ghost use Rattle.naming.specs.Steps.{entered, numberIn, RoomIn, Climbs, Doubles};
 
 // Puts a record's number under a key that has none yet.
@@ -34,6 +35,38 @@ pub fn index_ids(table: &[u16], count: usize, index: &mut [u16]) -> bool
             return false;
         }
         enter(index, id, (i + 1) as u16);
+        i += 1;
+    }
+    true
+}
+
+// A kind as it stands in a link.
+fn link_kind(kind: u16) -> u16
+    ensures { λ r. ⌜ (r ≡ linkKind kind) × (r ≤ 7) ⌝ }
+{
+    if kind == 0 {
+        return 7;
+    }
+    if 6 < kind {
+        return 7;
+    }
+    kind
+}
+
+// Lists by ID a link to each record: its place in the table and its kind in one number. Tells whether the list is long enough
+// for every ID.
+pub fn link_ids(table: &[u16], count: usize, links: &mut [u16]) -> bool
+    requires { ⌜ (count * width ≤ length (now table)) × (count ≤ 8192) × Blank (now links) ⌝ }
+    ensures { λ r. ⌜ (r ≡ true → Linked (shown (now (table .entry)) count) count (now (links .exit))) ⌝ }
+{
+    let mut i: usize = 0;
+    while i < count {
+        let kind = table[i * 4 + 2];
+        let id = table[i * 4 + 3];
+        if links.len() <= id as usize {
+            return false;
+        }
+        enter(links, id, (i * 8) as u16 + link_kind(kind));
         i += 1;
     }
     true

@@ -35,6 +35,10 @@ module _ (p : List ℕ) (at : ℕ) where
   unfolding entryOf fieldAt layout
   entry-view d i e hd he = cc
 
+  pub entries-view : (d : Span) → d ≡ textAt p (at + 3 + 2 + 1) → (i : ℕ) → entryOf p at i ≡ numberAt 2 p (d .to + 2 + 2 + 2 + 2 * i)
+  unfolding entryOf fieldAt layout
+  entries-view d hd i = rw hd
+
   pub process-data-view : (d : Span) (n a b q : ℕ)
       → n ≡ numberAt 2 p (at + 3 + 2) → a ≡ getD p (at + 3 + 2 + 2) 0 → b ≡ getD p (at + 3 + 2 + 2 + 1) 0 → d ≡ textAt p (at + 3 + 2 + 2 + 1 + 1) → q ≡ numberAt 2 p (d .to)
       → _≡_ {A = ProcessData} (record { ddi = n; properties = a; triggers = b; designator = d; presentation = q }) (processDataOf p at)

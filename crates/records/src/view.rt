@@ -8,7 +8,8 @@ use super::Property;
 use super::Span;
 use super::ValuePresentation;
 ghost use mathlib.Core.Path.{_≡_};
-ghost use Prim.Native.Nat.{_+_, _≤_, _<_};
+ghost use Prim.Native.Nat.{ℕ, _+_, _*_, _≤_, _<_};
+ghost use Rattle.wire.specs.Bytes.{numberAt};
 ghost use Rattle.records.specs.Layout.{markNumber, markOf, three};
 ghost use Rattle.records.specs.Fields.{textAt, partOf, idOf, deviceOf, elementOf, entryOf, processDataOf, propertyOf, presentationOf};
 
@@ -133,6 +134,17 @@ pub fn entry(p: &[u8], at: u16, i: u16) -> u16
     let number_at = designator.to;
     let count_at = number_at + 2 + 2;
     wire::read_u16(p, count_at + 2 + 2 * i as usize)
+}
+
+// Where the entry IDs of a device element's list begin.
+pub fn entries_from(p: &[u8], at: u16) -> usize
+    ensures { λ r. ⌜ ((m : ℕ) → entryOf (now (p .entry)) at m ≡ numberAt 2 (now (p .entry)) (r + 2 * m)) × (r ≤ 65535 + 268) ⌝ }
+{
+    let id_at = at as usize + 3;
+    let designator = text(p, id_at + 2 + 1);
+    let number_at = designator.to;
+    let count_at = number_at + 2 + 2;
+    count_at + 2
 }
 
 pub fn process_data(p: &[u8], at: u16) -> ProcessData

@@ -1,4 +1,4 @@
-// Little-endian numbers in bytes, and copying. Every public function but `word` takes any slice, place and number.
+// Little-endian numbers in bytes, and copying. Every public function but `word` and `pair` takes any slice, place and number.
 ghost use mathlib.Core.Path.{_≡_};
 ghost use Prim.Native.Nat.{_+_, _≤_, _<_, _^_};
 ghost use lib.Dec.{leb};
@@ -69,6 +69,14 @@ pub fn word(s: &[u8], at: usize) -> u64
     ensures { λ r. ⌜ r ≡ numberAt 8 (now (s .entry)) at ⌝ }
 {
     number(s, at, 8)
+}
+
+// The same of two bytes.
+pub fn pair(s: &[u8], at: usize) -> u16
+    requires { ⌜ at + 2 ≤ length (now s) ⌝ }
+    ensures { λ r. ⌜ r ≡ numberAt 2 (now (s .entry)) at ⌝ }
+{
+    number(s, at, 2) as u16
 }
 
 // Two's complement, without a cast that loses bits.

@@ -21,27 +21,27 @@ prepare-requires : tie.Need-prepare-requires
 prepare-requires c κs = (c .before .before .before .before .before .before .pre .0, c .before .before .before .before .before .before .pre .1, blank 65536, blank 65536, blank 8193, long 8193 _ (omega (arith, c .before .before .before .before .before .before .pre .1)))
 
 returns : tie.Need-returns
-returns c = absurd (true≢false (sym (c .before .before .before .before .prepare .ensures .1 (long 65536 65536 (omega arith)) (long 65536 65536 (omega arith)) (c .before .before .before .before .before .before .before .before .before .before .before .pre .2)) ∙ not-true (c .before .before .before .before .prepare .result) (c .if1 .taken)))
+returns c = absurd (true≢false (sym (c .before .before .before .before .prepare .ensures .1 (long 65536 65536 (omega arith)) (long 65536 65536 (omega arith)) (c .before .before .before .before .before .before .before .before .before .before .before .pre .5)) ∙ not-true (c .before .before .before .before .prepare .result) (c .if1 .taken)))
 
-slice-aggregate-put-all : tie.Need-slice-aggregate-put-all
-slice-aggregate-put-all c = search needs
+slice-aggregate-put-rest : tie.Need-slice-aggregate-put-rest
+slice-aggregate-put-rest c = search needs
 
-slice-aggregate-put-all-2 : tie.Need-slice-aggregate-put-all-2
-slice-aggregate-put-all-2 c = search needs
+slice-aggregate-put-rest-2 : tie.Need-slice-aggregate-put-rest-2
+slice-aggregate-put-rest-2 c = search needs
 
-slice-aggregate-put-all-3 : tie.Need-slice-aggregate-put-all-3
-slice-aggregate-put-all-3 c = search needs
+slice-aggregate-put-rest-3 : tie.Need-slice-aggregate-put-rest-3
+slice-aggregate-put-rest-3 c = search needs
 
-slice-aggregate-put-all-4 : tie.Need-slice-aggregate-put-all-4
-slice-aggregate-put-all-4 c = search needs
+slice-aggregate-put-rest-4 : tie.Need-slice-aggregate-put-rest-4
+slice-aggregate-put-rest-4 c = search needs
 
-slice-aggregate-put-all-5 : tie.Need-slice-aggregate-put-all-5
-slice-aggregate-put-all-5 c = search needs
+slice-aggregate-put-rest-5 : tie.Need-slice-aggregate-put-rest-5
+slice-aggregate-put-rest-5 c = search needs
 
-put-all-requires : tie.Need-put-all-requires
-put-all-requires c κs =
+put-rest-requires : tie.Need-put-rest-requires
+put-rest-requires c κs =
     let ready = c .before .before .before .before .before .before .before .before .before .before .prepare .ensures .0 (not-false (c .before .before .before .before .before .before .before .before .before .before .prepare .result) (c .before .before .before .before .before .before .if1 .left)) in
-    (ready .0, ready .1, lent 32768 32768 (omega arith) (omega arith) (omega arith))
+    (ready .0, ready .1, lent 32768 32768 (omega arith) (omega arith) (omega arith), c .before .before .before .before .before .before .before .before .before .before .before .before .before .before .before .before .before .pre .2, c .before .before .before .before .before .before .before .before .before .before .before .before .before .before .before .before .before .pre .3, c .before .before .before .before .before .before .before .before .before .before .before .before .before .before .before .before .before .pre .4)
 
 same-length : tie.Need-same-length
 same-length c = search needs
@@ -58,11 +58,11 @@ count-long-spec =
     slice-aggregate-prepare-3
     prepare-requires
     returns
-    slice-aggregate-put-all
-    slice-aggregate-put-all-2
-    slice-aggregate-put-all-3
-    slice-aggregate-put-all-4
-    slice-aggregate-put-all-5
-    put-all-requires
+    slice-aggregate-put-rest
+    slice-aggregate-put-rest-2
+    slice-aggregate-put-rest-3
+    slice-aggregate-put-rest-4
+    slice-aggregate-put-rest-5
+    put-rest-requires
     same-length
     returns-2)

@@ -4,7 +4,7 @@ use Prim.Native.Nat.{_<_}
 use native.Mathlib.Omega.{arith}
 use borrow.Author.Tests.{not-false, ltb-false}
 use Rattle.rules.proofs.Truth.{untrue}
-use Rattle.breaches.proofs.Clearing.{element-clear}
+use Rattle.breaches.proofs.Clearing.{element-prepared}
 use borrow.Author.Needs.{needs}
 use Rattle.breaches.proofs.clean.is_clean_element.Statement.{statement}
 use Rattle.breaches.proofs.clean.is_clean_element.Tie as tie
@@ -48,7 +48,7 @@ returns-2 c t =
     let e = c .before .before .before .before .before .before .before .device-element .result in
     let alone = c .before .before .before .before .before .is-clean-alone .ensures (not-false (c .before .before .before .before .before .is-clean-alone .result) (c .before .before .before .before .if1 .left)) in
     let low : e .number < 65536 = omega (arith, ltb-false 4095 (e .number) (alone .0 .1 .1 .0 0 (omega arith))) in
-    element-clear (a .p .now) (a .table .now) (a .count) (a .index .now) (a .numbers .now) (a .ups .now) (c .before .before .before .before .before .before .before .before .before .before .before .before .before .before .before .pre .0) (a .i) (c .before .before .before .before .before .before .before .before .before .before .before .before .before .before .before .pre .2) e (c .before .before .before .before .before .before .before .device-element .ensures) low (alone .0) (alone .1) (alone .2) (alone .3) (c .before .before .is-clean-list .ensures t)
+    element-prepared (a .p .now) (a .table .now) (a .count) (a .index .now) (a .numbers .now) (a .ups .now) (c .before .before .before .before .before .before .before .before .before .before .before .before .before .before .before .pre .0) (a .i) (c .before .before .before .before .before .before .before .before .before .before .before .before .before .before .before .pre .2) e (c .before .before .before .before .before .before .before .device-element .ensures) low (alone .0) (alone .1) (alone .2) (alone .3) (c .before .before .is-clean-list .ensures t)
 
 pub is-clean-element-spec : {M : Type 1} → statement M
 is-clean-element-spec =

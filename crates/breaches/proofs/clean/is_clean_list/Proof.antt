@@ -17,13 +17,13 @@ use Rattle.breaches.proofs.clean.is_clean_list.Tie as tie
 
 abbrev Inv-loop : tie.InvT-loop
 Inv-loop p table count index at size number seen₀ m₀ seen m =
-    (m ≤ size) × (length seen ≡ length seen₀) × Placed (λ (j : ℕ). tagOf p (shown table count) (entryNamed p (shown table count) at j)) number m seen
+    (m ≤ size) × (length seen ≡ length seen₀) × Placed (λ (t : ℕ). t % 1024) (λ (j : ℕ). tagOf p (shown table count) (entryNamed p (shown table count) at j)) number m seen
 
 abbrev μ-loop : tie.MeasureT-loop
 μ-loop p table count index at size number seen₀ m₀ seen m = size - m
 
 loop-holds : tie.Need-loop-holds Inv-loop μ-loop
-loop-holds c = (omega arith, refl, placed-none _ _ _)
+loop-holds c = (omega arith, refl, placed-none _ _ _ _)
 
 cast-entry : tie.Need-cast-entry Inv-loop μ-loop
 cast-entry c = omega (arith, c .loop-test .taken, c .before .before .before .before .before .before .pre .2)
@@ -70,7 +70,7 @@ loop-again c =
     let is = c .before .before .tag-at .ensures .0 ∙ ap (tagIn (a .p .now) (a .table .now)) (c .before .before .before .named-at .ensures ∙ ap (namedIn (a .index .now)) (c .before .before .before .before .entry .ensures)) ∙ tags (a .table .now) (a .count) (a .index .now) (c .before .before .before .before .before .before .before .before .before .before .before .pre .0) (a .p .now) _ in (
       omega (arith, c .before .before .before .before .before .loop-test .taken),
       simp length-set (l .inv .1),
-      placed-more _ (a .number) (l .m) (l .seen) (omega (arith, l .inv .1, c .before .before .before .before .before .before .before .before .before .before .before .pre .1)) (l .inv .2) x is (free .0) (free .1),
+      placed-more (λ (t : ℕ). t % 1024) _ (a .number) (l .m) (l .seen) (l .inv .2) x is (omega (arith, l .inv .1, c .before .before .before .before .before .before .before .before .before .before .before .pre .1)) (free .0) (free .1),
     )
 
 same-length-2 : tie.Need-same-length-2 Inv-loop μ-loop

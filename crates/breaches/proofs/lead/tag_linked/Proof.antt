@@ -1,0 +1,66 @@
+-- `breaches::lead::tag_linked` meets its contract. Assumes nothing.
+use mathlib.Core.Path.{_≡_, refl, sym, ap, _∙_}
+use mathlib.Core.Logic.{⊎-elim}
+use Prim.Native.Nat.{ℕ, suc, _+_, _*_, _/_, _≤_}
+use native.Mathlib.Omega.{arith}
+use borrow.Author.Tests.{eqb-true}
+use lib.ListN.{getD}
+use Rattle.wire.specs.Bytes.{numberAt}
+use Rattle.naming.specs.Lists.{shown}
+use Rattle.naming.specs.Links.{linkOf}
+use Rattle.rules.proofs.Truth.{either}
+use Rattle.breaches.proofs.Leading.{tag-linked}
+use borrow.Author.Needs.{needs}
+use Rattle.breaches.proofs.lead.tag_linked.Statement.{statement}
+use Rattle.breaches.proofs.lead.tag_linked.Tie as tie
+
+mul-number-at : tie.Need-mul-number-at
+mul-number-at c = search needs
+
+number-at-requires : tie.Need-number-at-requires
+number-at-requires c κs = search needs
+
+cast-read-u16 : tie.Need-cast-read-u16
+cast-read-u16 c = search needs
+
+add-read-u16 : tie.Need-add-read-u16
+add-read-u16 c = search needs
+
+read-u16-requires : tie.Need-read-u16-requires
+read-u16-requires c κs = search needs
+
+cast-result : tie.Need-cast-result
+cast-result c = search needs
+
+add-result : tie.Need-add-result
+add-result c = search needs
+
+returns : tie.Need-returns
+returns c =
+    let a = c .before .before .before .before .before .args in
+    let x = c .read-u16 .result in
+    let is : suc (numberAt 2 (a .p .now) (getD (a .table .now) (a .link / 8 * 4) 0 + 5)) ≡ 1 + x = ap suc (ap (λ y. numberAt 2 (a .p .now) (y + 5)) (sym (c .before .number-at .ensures)) ∙ sym (c .read-u16 .ensures)) ∙ omega arith in (
+      λ (r : ℕ) (b : r ≤ a .count) (l : a .link ≡ linkOf (shown (a .table .now) (a .count)) r) n.
+          ⊎-elim
+          (λ t. sym is ∙ tag-linked (a .table .now) (a .count) (a .p .now) r (a .link) 3 b l (eqb-true _ 3 t) (omega arith) (omega arith) refl)
+          (λ t. sym is ∙ tag-linked (a .table .now) (a .count) (a .p .now) r (a .link) 4 b l (eqb-true _ 4 t) (omega arith) (omega arith) refl)
+          (either _ _ (c .before .before .if1 .taken)),
+      search needs,
+    )
+
+returns-2 : tie.Need-returns-2
+returns-2 c = (λ r b l n. absurd (n refl), omega arith)
+
+pub tag-linked-spec : {M : Type 1} → statement M
+tag-linked-spec =
+    tie.close
+    (tie.spec
+    mul-number-at
+    number-at-requires
+    cast-read-u16
+    add-read-u16
+    read-u16-requires
+    cast-result
+    add-result
+    returns
+    returns-2)

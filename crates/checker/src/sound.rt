@@ -1,0 +1,104 @@
+// How many records from the first on have no fault, by lists that are as short as the pool allows: clearing long ones would
+// take most of the time. A list of different DDIs has no more entries than there are records.
+use super::Tried;
+ghost use mathlib.Core.Path.{_≡_};
+ghost use Prim.Native.Nat.{_*_, _≤_};
+ghost use lib.ListN.{length};
+ghost use Rattle.pool.specs.Reading.{width};
+ghost use Rattle.naming.specs.Records.{kindAt};
+ghost use Rattle.naming.specs.Naming.{firstOf};
+ghost use Rattle.naming.specs.Lists.{shown};
+ghost use Rattle.breaches.specs.Leading.{Led};
+ghost use Rattle.checker.specs.Trying.{LedIf};
+
+// For a short pool with small IDs.
+fn lead_short(p: &[u8], table: &[u16], count: usize, device: u16) -> Tried
+    requires { ⌜ (count * width ≤ length (now table)) × (count ≤ 8192) × (device ≡ firstOf (kindAt (shown (now table) count)) 1 count) ⌝ }
+    ensures { λ r. ⌜ LedIf (now (p .entry)) (shown (now (table .entry)) count) count r ⌝ }
+{
+    let mut links = [0u16; 512];
+    if !naming::link_ids(table, count, &mut links) {
+        return Tried::Short;
+    }
+    let mut numbers = [0u16; 512];
+    let mut seen = [0u16; 1024];
+    Tried::Counted(breaches::lead::lead(p, table, count, device, &links, &mut numbers, &mut seen))
+}
+
+// For the length of most pools.
+fn lead_middle(p: &[u8], table: &[u16], count: usize, device: u16) -> Tried
+    requires { ⌜ (count * width ≤ length (now table)) × (count ≤ 8192) × (device ≡ firstOf (kindAt (shown (now table) count)) 1 count) ⌝ }
+    ensures { λ r. ⌜ LedIf (now (p .entry)) (shown (now (table .entry)) count) count r ⌝ }
+{
+    let mut links = [0u16; 2048];
+    if !naming::link_ids(table, count, &mut links) {
+        return Tried::Short;
+    }
+    let mut numbers = [0u16; 1024];
+    let mut seen = [0u16; 1024];
+    Tried::Counted(breaches::lead::lead(p, table, count, device, &links, &mut numbers, &mut seen))
+}
+
+// For a pool of any length with the IDs that implements use.
+fn lead_long(p: &[u8], table: &[u16], count: usize, device: u16) -> Tried
+    requires { ⌜ (count * width ≤ length (now table)) × (count ≤ 8192) × (device ≡ firstOf (kindAt (shown (now table) count)) 1 count) ⌝ }
+    ensures { λ r. ⌜ LedIf (now (p .entry)) (shown (now (table .entry)) count) count r ⌝ }
+{
+    let mut links = [0u16; 8192];
+    if !naming::link_ids(table, count, &mut links) {
+        return Tried::Short;
+    }
+    let mut numbers = [0u16; 4096];
+    let mut seen = [0u16; 1024];
+    Tried::Counted(breaches::lead::lead(p, table, count, device, &links, &mut numbers, &mut seen))
+}
+
+// For every ID, and with a place for every DDI.
+fn lead_wide(p: &[u8], table: &[u16], count: usize, device: u16) -> usize
+    requires { ⌜ (count * width ≤ length (now table)) × (count ≤ 8192) × (device ≡ firstOf (kindAt (shown (now table) count)) 1 count) ⌝ }
+    ensures { λ r. ⌜ Led (now (p .entry)) (shown (now (table .entry)) count) count r ⌝ }
+{
+    let mut links = [0u16; 65536];
+    if !naming::link_ids(table, count, &mut links) {
+        return 0;
+    }
+    let mut numbers = [0u16; 4096];
+    let mut seen = [0u16; 65536];
+    breaches::lead::lead(p, table, count, device, &links, &mut numbers, &mut seen)
+}
+
+// Whether record i is there and so long that its list has more entries than there are stamps in the other lists.
+fn is_long(table: &[u16], count: usize, i: usize) -> bool
+    requires { ⌜ (count * width ≤ length (now table)) × (count ≤ 8192) ⌝ }
+{
+    if count <= i {
+        return false;
+    }
+    2048 < table[i * 4 + 1]
+}
+
+pub(crate) fn leading(p: &[u8], table: &[u16], count: usize, device: u16) -> usize
+    requires { ⌜ (count * width ≤ length (now table)) × (count ≤ 8192) × (device ≡ firstOf (kindAt (shown (now table) count)) 1 count) ⌝ }
+    ensures { λ r. ⌜ Led (now (p .entry)) (shown (now (table .entry)) count) count r ⌝ }
+{
+    if count < 128 {
+        let short = lead_short(p, table, count, device);
+        if let Tried::Counted(k) = short {
+            return k;
+        }
+    }
+    if count < 1024 {
+        let middle = lead_middle(p, table, count, device);
+        if let Tried::Counted(k) = middle {
+            return k;
+        }
+    }
+    let long = lead_long(p, table, count, device);
+    if let Tried::Counted(k) = long {
+        if is_long(table, count, k) {
+            return lead_wide(p, table, count, device);
+        }
+        return k;
+    }
+    lead_wide(p, table, count, device)
+}

@@ -1,0 +1,24 @@
+-- Records by ID with their kinds: a link is a record's place in the table and its kind in one number, so that what an ID names
+-- and of which kind that is takes one look. No public contract of the checker rests on these. Definitions only.
+use Prim.Native.Nat.{ℕ, zero, suc, _+_, _*_}
+use mathlib.Core.Path.{_≡_}
+use mathlib.Core.Bool.{cond, _&&_}
+use mathlib.Core.List.{List}
+use lib.Dec.{leb}
+use lib.ListN.{getD}
+use Rattle.pool.specs.Reading.{Entry}
+use Rattle.naming.specs.Records.{idAt, kindAt}
+use Rattle.naming.specs.Naming.{firstOf}
+
+-- a kind in a link: what is no kind counts as 7
+abbrev pub linkKind : ℕ → ℕ
+linkKind k = cond (leb 1 k && leb k 6) k 7
+
+-- the link to the record with a number from 1; 0 for none, and for nothing else
+abbrev pub linkOf : List Entry → ℕ → ℕ
+linkOf es zero = 0
+linkOf es (suc i) = i * 8 + linkKind (kindAt es i)
+
+-- the list has under each ID the link to the first of n records with it
+abbrev pub Linked : List Entry → ℕ → List ℕ → Type 0
+Linked es n links = (x : ℕ) → getD links x 0 ≡ linkOf es (firstOf (idAt es) x n)
