@@ -37,7 +37,10 @@ fn is_clear_data(p: &[u8], table: &[u16], count: usize, links: &[u16], at: u16) 
     ensures { λ r. ⌜ (r ≡ true → AllClear (dataRows (now (p .entry)) (processDataOf (now (p .entry)) at) ++ presentedRows (shown (now (table .entry)) count) (processDataOf (now (p .entry)) at .presentation))) ⌝ }
 {
     let text_at = at as usize + 9;
-    if p.len() < text_at + 3 + wire::read_u8(p, text_at) as usize {
+    if p.len() <= text_at {
+        return false;
+    }
+    if p.len() < text_at + 3 + p[text_at] as usize {
         return false;
     }
     let d = records::view::process_data(p, at);
@@ -52,7 +55,10 @@ fn is_clear_property(p: &[u8], table: &[u16], count: usize, links: &[u16], at: u
     ensures { λ r. ⌜ (r ≡ true → AllClear (propertyRows (now (p .entry)) (propertyOf (now (p .entry)) at) ++ presentedRows (shown (now (table .entry)) count) (propertyOf (now (p .entry)) at .presentation))) ⌝ }
 {
     let text_at = at as usize + 11;
-    if p.len() < text_at + 3 + wire::read_u8(p, text_at) as usize {
+    if p.len() <= text_at {
+        return false;
+    }
+    if p.len() < text_at + 3 + p[text_at] as usize {
         return false;
     }
     let d = records::view::property(p, at);
@@ -88,8 +94,11 @@ fn tag_linked(p: &[u8], table: &[u16], count: usize, link: u16) -> usize
 {
     let kind = link % 8;
     if (kind == 3) | (kind == 4) {
-        let at = record::number_at(table, link as usize / 8 * 4);
-        return 1 + wire::read_u16(p, at as usize + 5) as usize;
+        let ddi_at = record::number_at(table, link as usize / 8 * 4) as usize + 5;
+        if p.len() < ddi_at + 2 {
+            return 0;
+        }
+        return 1 + wire::pair(p, ddi_at) as usize;
     }
     0
 }
@@ -180,6 +189,9 @@ fn is_clear_element(
     ensures { λ r. ⌜ (r ≡ true → AllClear (elementRows (now (p .entry)) (shown (now (table .entry)) count) i (elementOf (now (p .entry)) (startAt (shown (now (table .entry)) count) i))) × Leading (now (p .entry)) (now (table .entry)) count (now (numbers .exit)) (i + 1)) ⌝ }
 {
     let at = table[i * 4];
+    if p.len() < at as usize + 7 {
+        return false;
+    }
     let from = records::view::entries_from(p, at);
     if p.len() < from {
         return false;

@@ -213,11 +213,11 @@ fn try_middle(
     let mut index = [0u16; 8192];
     let mut numbers = [0u16; 4096];
     let mut ups = [0u16; 8193];
-    if !prepare(p, table, count, &mut index, &mut numbers, &mut ups, 1024) {
+    if !prepare(p, table, count, &mut index, &mut numbers, &mut ups, 32768) {
         return Tried::Short;
     }
-    let mut list = [0u16; 1024];
-    let mut seen = [0u16; 1024];
+    let mut list = [0u16; 32768];
+    let mut seen = [0u16; 32768];
     Tried::Counted(put_rest(
         p,
         table,
@@ -226,7 +226,7 @@ fn try_middle(
         &numbers,
         &ups,
         device,
-        1024,
+        32768,
         &mut list,
         &mut seen,
         from,
@@ -273,19 +273,23 @@ fn count_long(
     )
 }
 
-// Counts and puts the faults of the records from one on, with the shortest lists that do.
+// Counts and puts the faults of the records, of which so many from the first on have none, with the shortest lists that do.
 fn count_rest(
     p: &[u8],
     table: &[u16],
     count: usize,
     device: u16,
-    from: usize,
+    clear: usize,
     faults: &mut [u16],
     start: usize,
 ) -> usize
-    requires { ⌜ (count * width ≤ length (now table)) × (count ≤ 8192) × (device ≡ firstOf (kindAt (shown (now table) count)) 1 count) × Led (now p) (shown (now table) count) count from × (start ≤ 2) × Roomy (now p) (shown (now table) count) 32768 ⌝ }
+    requires { ⌜ (count * width ≤ length (now table)) × (count ≤ 8192) × (device ≡ firstOf (kindAt (shown (now table) count)) 1 count) × Led (now p) (shown (now table) count) count clear × (start ≤ 2) × Roomy (now p) (shown (now table) count) 32768 ⌝ }
     ensures { λ r. ⌜ Completes (now (p .entry)) (shown (now (table .entry)) count) (now (faults .entry)) start (now (faults .exit)) r ⌝ }
 {
+    let from = sound::widened(p, table, count, device, clear);
+    if from == count {
+        return start;
+    }
     let short = try_short(p, table, count, device, from, faults, start);
     if let Tried::Counted(n) = short {
         return n;

@@ -53,30 +53,7 @@ fn lead_long(p: &[u8], table: &[u16], count: usize, device: u16) -> Tried
     Tried::Counted(breaches::lead::lead(p, table, count, device, &links, &mut numbers, &mut seen))
 }
 
-// For every ID, and with a place for every DDI.
-fn lead_wide(p: &[u8], table: &[u16], count: usize, device: u16) -> usize
-    requires { ⌜ (count * width ≤ length (now table)) × (count ≤ 8192) × (device ≡ firstOf (kindAt (shown (now table) count)) 1 count) ⌝ }
-    ensures { λ r. ⌜ Led (now (p .entry)) (shown (now (table .entry)) count) count r ⌝ }
-{
-    let mut links = [0u16; 65536];
-    if !naming::link_ids(table, count, &mut links) {
-        return 0;
-    }
-    let mut numbers = [0u16; 4096];
-    let mut seen = [0u16; 65536];
-    breaches::lead::lead(p, table, count, device, &links, &mut numbers, &mut seen)
-}
-
-// Whether record i is there and so long that its list has more entries than there are stamps in the other lists.
-fn is_long(table: &[u16], count: usize, i: usize) -> bool
-    requires { ⌜ (count * width ≤ length (now table)) × (count ≤ 8192) ⌝ }
-{
-    if count <= i {
-        return false;
-    }
-    2048 < table[i * 4 + 1]
-}
-
+// How many records from the first on have no fault, as far as such lists tell.
 pub(crate) fn leading(p: &[u8], table: &[u16], count: usize, device: u16) -> usize
     requires { ⌜ (count * width ≤ length (now table)) × (count ≤ 8192) × (device ≡ firstOf (kindAt (shown (now table) count)) 1 count) ⌝ }
     ensures { λ r. ⌜ Led (now (p .entry)) (shown (now (table .entry)) count) count r ⌝ }
@@ -95,10 +72,62 @@ pub(crate) fn leading(p: &[u8], table: &[u16], count: usize, device: u16) -> usi
     }
     let long = lead_long(p, table, count, device);
     if let Tried::Counted(k) = long {
-        if is_long(table, count, k) {
-            return lead_wide(p, table, count, device);
-        }
         return k;
     }
-    lead_wide(p, table, count, device)
+    0
+}
+
+// For every ID, and with a place for almost every DDI.
+fn lead_wide(p: &[u8], table: &[u16], count: usize, device: u16) -> usize
+    requires { ⌜ (count * width ≤ length (now table)) × (count ≤ 8192) × (device ≡ firstOf (kindAt (shown (now table) count)) 1 count) ⌝ }
+    ensures { λ r. ⌜ Led (now (p .entry)) (shown (now (table .entry)) count) count r ⌝ }
+{
+    let mut links = [0u16; 65536];
+    if !naming::link_ids(table, count, &mut links) {
+        return 0;
+    }
+    let mut numbers = [0u16; 4096];
+    let mut seen = [0u16; 65536];
+    breaches::lead::lead(p, table, count, device, &links, &mut numbers, &mut seen)
+}
+
+// Whether record i is there and so long that its list has more entries than there were stamps.
+fn is_long(table: &[u16], count: usize, i: usize) -> bool
+    requires { ⌜ (count * width ≤ length (now table)) × (count ≤ 8192) ⌝ }
+{
+    if count <= i {
+        return false;
+    }
+    2048 < table[i * 4 + 1]
+}
+
+// Whether a record has an ID for which the lists were too short.
+fn has_high_id(table: &[u16], count: usize) -> bool
+    requires { ⌜ (count * width ≤ length (now table)) × (count ≤ 8192) ⌝ }
+{
+    let mut i: usize = 0;
+    while i < count {
+        if 8191 < table[i * 4 + 3] {
+            return true;
+        }
+        i += 1;
+    }
+    false
+}
+
+// Looks again with long lists, where it was the lists' length that ended the first look.
+pub(crate) fn widened(p: &[u8], table: &[u16], count: usize, device: u16, from: usize) -> usize
+    requires { ⌜ (count * width ≤ length (now table)) × (count ≤ 8192) × (device ≡ firstOf (kindAt (shown (now table) count)) 1 count) × Led (now p) (shown (now table) count) count from ⌝ }
+    ensures { λ r. ⌜ Led (now (p .entry)) (shown (now (table .entry)) count) count r ⌝ }
+{
+    if is_long(table, count, from) {
+        return lead_wide(p, table, count, device);
+    }
+    if 0 < from {
+        return from;
+    }
+    if has_high_id(table, count) {
+        return lead_wide(p, table, count, device);
+    }
+    from
 }

@@ -195,23 +195,41 @@ fn is_single(p: &[u8], from: usize, n: usize) -> bool
         & is_single_word(p, from + 24, n + 103)
 }
 
+// The bytes of a text one by one, by where it stands.
+fn is_sound_part(p: &[u8], from: usize, to: usize) -> bool
+    ensures { λ r. ⌜ r ≡ soundText (take (to - from) (drop from (now (p .entry)))) ⌝ }
+{
+    is_sound_slice(records::view::part(p, Span { from, to }))
+}
+
+// Whether a text has at most 32 bytes and so many follow where it begins.
+fn has_window(len: usize, from: usize, to: usize) -> bool
+    ensures { λ r. ⌜ (r ≡ true → (from ≤ to) × (to - from ≤ 32) × (from + 32 ≤ len)) ⌝ }
+{
+    if to < from {
+        return false;
+    }
+    if 32 < to - from {
+        return false;
+    }
+    if len < from {
+        return false;
+    }
+    32 <= len - from
+}
+
 // The examiner of a text, by where it stands: rule 4. Most texts are short and of single bytes, and then nothing is wrong
 // with them.
 pub fn is_sound_in(p: &[u8], from: usize, to: usize) -> bool
     ensures { λ r. ⌜ r ≡ soundText (take (to - from) (drop from (now (p .entry)))) ⌝ }
 {
-    if from <= to {
-        if to - from <= 32 {
-            if from <= p.len() {
-                if 32 <= p.len() - from {
-                    if is_single(p, from, to - from) {
-                        return true;
-                    }
-                }
-            }
+    if has_window(p.len(), from, to) {
+        if is_single(p, from, to - from) {
+            return true;
         }
+        return is_sound_part(p, from, to);
     }
-    is_sound_slice(records::view::part(p, Span { from, to }))
+    is_sound_part(p, from, to)
 }
 
 pub fn is_sound(s: &[u8]) -> bool

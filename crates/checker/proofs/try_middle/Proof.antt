@@ -39,7 +39,7 @@ slice-aggregate-put-rest-5 c = search needs
 put-rest-requires : tie.Need-put-rest-requires
 put-rest-requires c κs =
     let ready = c .before .before .before .before .before .before .before .before .before .before .prepare .ensures .0 (not-false (c .before .before .before .before .before .before .before .before .before .before .prepare .result) (c .before .before .before .before .before .before .if1 .left)) in
-    (ready .0, ready .1, lent 1024 1024 (omega arith) (omega arith) (omega arith), c .before .before .before .before .before .before .before .before .before .before .before .before .before .before .before .before .before .pre .2, c .before .before .before .before .before .before .before .before .before .before .before .before .before .before .before .before .before .pre .3, c .before .before .before .before .before .before .before .before .before .before .before .before .before .before .before .before .before .pre .4)
+    (ready .0, ready .1, lent 32768 32768 (omega arith) (omega arith) (omega arith), c .before .before .before .before .before .before .before .before .before .before .before .before .before .before .before .before .before .pre .2, c .before .before .before .before .before .before .before .before .before .before .before .before .before .before .before .before .before .pre .3, c .before .before .before .before .before .before .before .before .before .before .before .before .before .before .before .before .before .pre .4)
 
 same-length : tie.Need-same-length
 same-length c = search needs

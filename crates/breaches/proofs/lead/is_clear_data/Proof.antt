@@ -1,6 +1,8 @@
 -- `breaches::lead::is_clear_data` meets its contract. Assumes nothing.
 use mathlib.Core.Path.{_≡_, sym, subst, _∙_}
 use mathlib.Core.List.{_++_}
+use Prim.Native.Nat.{_+_}
+use native.Mathlib.Omega.{arith}
 use borrow.Author.Tests.{ltb-true}
 use Rattle.records.specs.declared.ProcessData.{ProcessData}
 use Rattle.naming.specs.Lists.{shown}
@@ -15,20 +17,23 @@ use Rattle.breaches.proofs.lead.is_clear_data.Tie as tie
 add-text-at : tie.Need-add-text-at
 add-text-at c = search needs
 
-add-if1 : tie.Need-add-if1
-add-if1 c = search needs
-
-read-u8-requires : tie.Need-read-u8-requires
-read-u8-requires c κs = search needs
-
-cast-if1 : tie.Need-cast-if1
-cast-if1 c = search needs
-
-add-if1-2 : tie.Need-add-if1-2
-add-if1-2 c = search needs
-
 returns : tie.Need-returns
 returns c t = untrue t
+
+add-if2 : tie.Need-add-if2
+add-if2 c = search needs
+
+shared-slice-read-if2 : tie.Need-shared-slice-read-if2
+shared-slice-read-if2 c = search needs
+
+cast-if2 : tie.Need-cast-if2
+cast-if2 c = omega (arith, c .shared-slice-known4 .given (c .before .before .before .before .before .args .at + 9))
+
+add-if2-2 : tie.Need-add-if2-2
+add-if2-2 c = omega (arith, c .shared-slice-known4 .given (c .before .before .before .before .before .args .at + 9))
+
+returns-2 : tie.Need-returns-2
+returns-2 c t = untrue t
 
 process-data-requires : tie.Need-process-data-requires
 process-data-requires c κs = search needs
@@ -39,8 +44,8 @@ is-presented-requires c κs = search needs
 is-sound-in-requires : tie.Need-is-sound-in-requires
 is-sound-in-requires c κs = search needs
 
-returns-2 : tie.Need-returns-2
-returns-2 c e = let a = c .before .before .before .before .before .before .before .before .before .before .args in
+returns-3 : tie.Need-returns-3
+returns-3 c e = let a = c .before .before .before .before .before .before .before .before .before .before .before .args in
     let p = a .p .now in
     let es = shown (a .table .now) (a .count) in
     let d = c .before .before .before .before .process-data .result in
@@ -55,12 +60,13 @@ is-clear-data-spec =
     tie.close
     (tie.spec
     add-text-at
-    add-if1
-    read-u8-requires
-    cast-if1
-    add-if1-2
     returns
+    add-if2
+    shared-slice-read-if2
+    cast-if2
+    add-if2-2
+    returns-2
     process-data-requires
     is-presented-requires
     is-sound-in-requires
-    returns-2)
+    returns-3)

@@ -20,14 +20,20 @@ mul-number-at c = search needs
 number-at-requires : tie.Need-number-at-requires
 number-at-requires c κs = search needs
 
-cast-read-u16 : tie.Need-cast-read-u16
-cast-read-u16 c = search needs
+cast-ddi-at : tie.Need-cast-ddi-at
+cast-ddi-at c = search needs
 
-add-read-u16 : tie.Need-add-read-u16
-add-read-u16 c = search needs
+add-ddi-at : tie.Need-add-ddi-at
+add-ddi-at c = search needs
 
-read-u16-requires : tie.Need-read-u16-requires
-read-u16-requires c κs = search needs
+add-if2 : tie.Need-add-if2
+add-if2 c = search needs
+
+returns : tie.Need-returns
+returns c = (λ r b l n. absurd (n refl), omega arith)
+
+pair-requires : tie.Need-pair-requires
+pair-requires c κs = search needs
 
 cast-result : tie.Need-cast-result
 cast-result c = search needs
@@ -35,21 +41,21 @@ cast-result c = search needs
 add-result : tie.Need-add-result
 add-result c = search needs
 
-returns : tie.Need-returns
-returns c =
-    let a = c .before .before .before .before .before .args in
-    let x = c .read-u16 .result in
-    let is : suc (numberAt 2 (a .p .now) (getD (a .table .now) (a .link / 8 * 4) 0 + 5)) ≡ 1 + x = ap suc (ap (λ y. numberAt 2 (a .p .now) (y + 5)) (sym (c .before .number-at .ensures)) ∙ sym (c .read-u16 .ensures)) ∙ omega arith in (
+returns-2 : tie.Need-returns-2
+returns-2 c =
+    let a = c .before .before .before .before .before .before .args in
+    let x = c .pair .result in
+    let is : suc (numberAt 2 (a .p .now) (getD (a .table .now) (a .link / 8 * 4) 0 + 5)) ≡ 1 + x = ap suc (ap (λ y. numberAt 2 (a .p .now) (y + 5)) (sym (c .before .before .number-at .ensures)) ∙ sym (c .pair .ensures)) ∙ omega arith in (
       λ (r : ℕ) (b : r ≤ a .count) (l : a .link ≡ linkOf (shown (a .table .now) (a .count)) r) n.
           ⊎-elim
           (λ t. sym is ∙ tag-linked (a .table .now) (a .count) (a .p .now) r (a .link) 3 b l (eqb-true _ 3 t) (omega arith) (omega arith) refl)
           (λ t. sym is ∙ tag-linked (a .table .now) (a .count) (a .p .now) r (a .link) 4 b l (eqb-true _ 4 t) (omega arith) (omega arith) refl)
-          (either _ _ (c .before .before .if1 .taken)),
+          (either _ _ (c .before .before .before .if1 .taken)),
       search needs,
     )
 
-returns-2 : tie.Need-returns-2
-returns-2 c = (λ r b l n. absurd (n refl), omega arith)
+returns-3 : tie.Need-returns-3
+returns-3 c = (λ r b l n. absurd (n refl), omega arith)
 
 pub tag-linked-spec : {M : Type 1} → statement M
 tag-linked-spec =
@@ -57,10 +63,12 @@ tag-linked-spec =
     (tie.spec
     mul-number-at
     number-at-requires
-    cast-read-u16
-    add-read-u16
-    read-u16-requires
+    cast-ddi-at
+    add-ddi-at
+    add-if2
+    returns
+    pair-requires
     cast-result
     add-result
-    returns
-    returns-2)
+    returns-2
+    returns-3)

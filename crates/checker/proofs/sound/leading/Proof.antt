@@ -1,6 +1,6 @@
 -- `checker::sound::leading` meets its contract. Assumes nothing.
 use Rattle.naming.specs.Lists.{shown}
-use Rattle.checker.proofs.Tries.{led-counted}
+use Rattle.checker.proofs.Tries.{led-counted, led-none}
 use borrow.Author.Needs.{needs}
 use Rattle.checker.proofs.sound.leading.Statement.{statement}
 use Rattle.checker.proofs.sound.leading.Tie as tie
@@ -35,26 +35,14 @@ lead-long-requires c κs = search needs
 enum-known-long : tie.Need-enum-known-long
 enum-known-long c = search needs
 
-is-long-requires : tie.Need-is-long-requires
-is-long-requires c κs = search needs
-
-lead-wide-requires : tie.Need-lead-wide-requires
-lead-wide-requires c κs = search needs
-
 returns-3 : tie.Need-returns-3
-returns-3 c = search needs
-
-returns-4 : tie.Need-returns-4
-returns-4 c = led-counted (c .before .before .before .before .before .before .before .before .before .before .args .p .now) (shown (c .before .before .before .before .before .before .before .before .before .before .args .table .now) (c .before .before .before .before .before .before .before .before .before .before .args .count)) (c .before .before .before .before .before .before .before .before .before .before .args .count) (c .before .before .before .before .before .lead-long .result) (c .before .before .before .before .before .lead-long .ensures) _ (c .before .before .before .long .given .1)
+returns-3 c = led-counted (c .before .before .before .before .before .before .before .before .args .p .now) (shown (c .before .before .before .before .before .before .before .before .args .table .now) (c .before .before .before .before .before .before .before .before .args .count)) (c .before .before .before .before .before .before .before .before .args .count) (c .before .before .before .lead-long .result) (c .before .before .before .lead-long .ensures) _ (c .before .long .given .1)
 
 enum-told-3 : tie.Need-enum-told-3
 enum-told-3 c = search needs
 
-lead-wide-requires-2 : tie.Need-lead-wide-requires-2
-lead-wide-requires-2 c κs = search needs
-
-returns-5 : tie.Need-returns-5
-returns-5 c = search needs
+returns-4 : tie.Need-returns-4
+returns-4 c = led-none (c .before .before .before .before .before .before .before .args .p .now) (shown (c .before .before .before .before .before .before .before .args .table .now) (c .before .before .before .before .before .before .before .args .count)) (c .before .before .before .before .before .before .before .args .count)
 
 pub leading-spec : {M : Type 1} → statement M
 leading-spec =
@@ -70,10 +58,6 @@ leading-spec =
     enum-told-2
     lead-long-requires
     enum-known-long
-    is-long-requires
-    lead-wide-requires
     returns-3
-    returns-4
     enum-told-3
-    lead-wide-requires-2
-    returns-5)
+    returns-4)
