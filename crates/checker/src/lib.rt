@@ -286,7 +286,7 @@ fn count_rest(
     requires { ⌜ (count * width ≤ length (now table)) × (count ≤ 8192) × (device ≡ firstOf (kindAt (shown (now table) count)) 1 count) × Led (now p) (shown (now table) count) count clear × (start ≤ 2) × Roomy (now p) (shown (now table) count) 32768 ⌝ }
     ensures { λ r. ⌜ Completes (now (p .entry)) (shown (now (table .entry)) count) (now (faults .entry)) start (now (faults .exit)) r ⌝ }
 {
-    let from = sound::widened(p, table, count, device, clear);
+    let from = sound::widened(p, table, count, device, clear, start);
     if from == count {
         return start;
     }

@@ -115,11 +115,22 @@ fn has_high_id(table: &[u16], count: usize) -> bool
     false
 }
 
-// Looks again with long lists, where it was the lists' length that ended the first look.
-pub(crate) fn widened(p: &[u8], table: &[u16], count: usize, device: u16, from: usize) -> usize
+// Looks again with long lists, where it was the lists' length that ended the first look; not at a pool that as a whole has a
+// fault already.
+pub(crate) fn widened(
+    p: &[u8],
+    table: &[u16],
+    count: usize,
+    device: u16,
+    from: usize,
+    start: usize,
+) -> usize
     requires { ⌜ (count * width ≤ length (now table)) × (count ≤ 8192) × (device ≡ firstOf (kindAt (shown (now table) count)) 1 count) × Led (now p) (shown (now table) count) count from ⌝ }
     ensures { λ r. ⌜ Led (now (p .entry)) (shown (now (table .entry)) count) count r ⌝ }
 {
+    if 0 < start {
+        return from;
+    }
     if is_long(table, count, from) {
         return lead_wide(p, table, count, device);
     }
