@@ -1,17 +1,15 @@
 -- The parts of a record laid down one behind the other. Assumes nothing.
 use mathlib.Core.Path.{_≡_, refl, sym, ap, _∙_}
 use mathlib.Core.List.{List, [], _∷_, _++_}
-use Prim.Native.Nat.{ℕ, zero, suc, _+_, _-_, _%_, _≤_, _<_}
+use Prim.Native.Nat.{ℕ, zero, suc, _+_, _-_, _≤_, _<_}
 use native.Mathlib.Nat.{zero-add, add-zero}
 use native.Mathlib.Numerals.{add-one}
 use native.Mathlib.Omega.{arith}
-use borrow.Author.Tests.{le-leb}
 use lib.IntN.{ℤ, pos}
-use lib.ListN.{length, getD, set, take, drop, length-set, length-append}
-use lib.Seq.{sets, length-sets, drop-cons}
-use Rattle.wire.specs.Bytes.{bytesOf, bitsOf, laid}
+use lib.ListN.{length, getD, set, take, drop, length-append}
+use lib.Seq.{sets, drop-cons}
+use Rattle.wire.specs.Bytes.{bytesOf, bitsOf}
 use Rattle.wire.proofs.Width.{bytes-long}
-use Rattle.wire.proofs.Laid.{laid-fits}
 use Rattle.time_log.specs.Layout.{partWidth, placeOf}
 use Rattle.time_log.specs.Contents.{spaced}
 use Rattle.time_log.specs.Writing.{fieldBits, bytesBefore, pairsFrom, recordBytes}
@@ -24,29 +22,18 @@ sets-behind (x ∷ xs) ys d i = ap (λ (n : ℕ). sets (sets (set d i x) (suc i)
     further : (i n : ℕ) → i + suc n ≡ suc i + n
     further i n = omega arith
 
--- a number laid where there is room for it
-pub number-laid : (d : List ℕ) (at w x : ℕ) → at + w ≤ length d → laid d at (bytesOf w x) ≡ sets d at (bytesOf w x)
-number-laid d at w x h = laid-fits d at (bytesOf w x) (le-leb (at + length (bytesOf w x)) (length d) (rw (bytes-long w x) h))
-
-pub one-laid : (d : List ℕ) (at x : ℕ) → x < 256 → set d at x ≡ sets d at (bytesOf 1 x)
-unfolding bytesOf
-one-laid d at x h = let e : x % 256 ≡ x = omega arith in rw e
-
 pub before-long : (layout : ℕ) (f : Fields) (k : ℕ) → length (bytesBefore layout f k) ≡ placeOf layout k
 unfolding bytesBefore placeOf
 before-long layout f zero = length-append (bytesOf 4 (f .time)) (bytesOf 2 (f .days)) ∙ rw (bytes-long 4 (f .time), bytes-long 2 (f .days))
 before-long layout f (suc k) =
     length-append (bytesBefore layout f k) (bytesOf (partWidth layout k) (fieldBits f k)) ∙ rw (before-long layout f k, bytes-long (partWidth layout k) (fieldBits f k))
 
-pub head-laid : (d a b : List ℕ) (layout : ℕ) (f : Fields) → 6 ≤ length d → a ≡ laid d 0 (bytesOf 4 (f .time)) → b ≡ laid a 4 (bytesOf 2 (f .days)) → b ≡ sets d 0 (bytesBefore layout f 0)
+pub head-laid : (d a b : List ℕ) (layout : ℕ) (f : Fields) → a ≡ sets d 0 (bytesOf 4 (f .time)) → b ≡ sets a 4 (bytesOf 2 (f .days)) → b ≡ sets d 0 (bytesBefore layout f 0)
 unfolding bytesBefore
-head-laid d a b layout f h p q =
-    let e : a ≡ sets d 0 (bytesOf 4 (f .time)) = p ∙ number-laid d 0 4 (f .time) (omega arith) in
-    let n : length a ≡ length d = ap length e ∙ length-sets d 0 (bytesOf 4 (f .time)) in
+head-laid d a b layout f p q =
     let m : 4 ≡ 0 + length (bytesOf 4 (f .time)) = rw (bytes-long 4 (f .time)) in
     q
-    ∙ number-laid a 4 2 (f .days) (omega (arith, n))
-    ∙ ap (λ (l : List ℕ). sets l 4 (bytesOf 2 (f .days))) e
+    ∙ ap (λ (l : List ℕ). sets l 4 (bytesOf 2 (f .days))) p
     ∙ ap (λ (k : ℕ). sets (sets d 0 (bytesOf 4 (f .time))) k (bytesOf 2 (f .days))) m
     ∙ sets-behind (bytesOf 4 (f .time)) (bytesOf 2 (f .days)) d 0
 
@@ -68,15 +55,13 @@ all-laid d a b layout f n os vs e p =
     p ∙ rw (add-one (placeOf layout 9)) (behind d a layout f 9 (n ∷ pairsFrom os vs 0 n) e)
 
 -- a turn of the loop over the pairs
-pub pair-laid : (to after : List ℕ) (os : List ℕ) (vs : List ℤ) (p i n : ℕ) → i < n → p + 5 ≤ length to
-    → after ≡ laid (set to p (getD os i 0)) (p + 1) (bytesOf 4 (bitsOf 4 (getD vs i (pos 0))))
+pub pair-laid : (to after : List ℕ) (os : List ℕ) (vs : List ℤ) (p i n : ℕ) → i < n
+    → after ≡ sets (set to p (getD os i 0)) (p + 1) (bytesOf 4 (bitsOf 4 (getD vs i (pos 0))))
     → sets after (p + 5) (pairsFrom os vs (i + 1) (n - (i + 1))) ≡ sets to p (pairsFrom os vs i (n - i))
 unfolding pairsFrom
-pair-laid to after os vs p i n h l e =
+pair-laid to after os vs p i n h q =
     let x = bitsOf 4 (getD vs i (pos 0)) in
     let d = set to p (getD os i 0) in
-    let m : length d ≡ length to = length-set to p (getD os i 0) in
-    let q : after ≡ sets d (p + 1) (bytesOf 4 x) = e ∙ number-laid d (p + 1) 4 x (omega (arith, m, l)) in
     let k : n - i ≡ suc (n - (i + 1)) = omega arith in
     let z : p + 5 ≡ (p + 1) + length (bytesOf 4 x) = rw (bytes-long 4 x) (omega arith) in
     rw (k, q, z, sets-behind (bytesOf 4 x) (pairsFrom os vs (i + 1) (n - (i + 1))) d (p + 1), add-one p)

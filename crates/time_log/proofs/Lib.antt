@@ -5,6 +5,7 @@ pub mod Sizes
 pub mod Runs
 pub mod Numbers
 pub mod Answers
+pub mod Refusals
 pub mod Prefix
 pub mod Walks
 pub mod Divided

@@ -1,27 +1,14 @@
 -- An optional field as a number of its width. Assumes nothing.
 use mathlib.Core.Path.{_≡_, refl, ap, _∙_}
-use mathlib.Core.List.{List, [], _∷_}
-use Prim.Native.Nat.{ℕ, _^_, _<_}
-use native.Mathlib.Nat.{lt-of-lt-of-le}
+use mathlib.Core.List.{List}
+use Prim.Native.Nat.{ℕ, _+_, _*_, _-_, _≤_, _<_}
 use native.Mathlib.Omega.{arith}
-use lib.ListN.{getD, take, drop}
-use lib.Seq.{getD-drop}
-use native.Mathlib.Nat.{add-zero}
-use lib.IntN.{pos}
+use borrow.Author.Tests.{le-ltb}
+use lib.IntN.{pos, natAbs}
 use Rattle.wire.specs.Bytes.{leOf, numberAt, signedOf}
-use Rattle.wire.proofs.Width.{narrower}
-use Rattle.time_log.specs.Layout.{width, partWidth, placeOf}
+use Rattle.wire.proofs.Complement.{low}
+use Rattle.time_log.specs.Layout.{partWidth, placeOf}
 use Rattle.time_log.specs.Contents.{partAt}
-use Rattle.time_log.proofs.Parts.{part-narrow}
-
--- one byte
-pub one-byte : (s : List ℕ) (at : ℕ) → numberAt 1 s at ≡ getD s at 0
-unfolding numberAt leOf
-one-byte s at = go (drop at s) ∙ getD-drop at s 0 0 ∙ ap (λ (i : ℕ). getD s i 0) (add-zero at)
-  where
-    go : (l : List ℕ) → leOf (take 1 l) ≡ getD l 0 0
-    go [] = refl
-    go (x ∷ l) = omega arith
 
 -- what is read in the part's width at the part's place
 pub read-part : (layout k w at : ℕ) (s : List ℕ) (x : ℕ) → w ≡ partWidth layout k → at ≡ placeOf layout k → x ≡ numberAt w s at → x ≡ partAt layout s k
@@ -32,8 +19,13 @@ pub absent : (layout k : ℕ) (s : List ℕ) → partWidth layout k ≡ 0 → 0 
 unfolding partAt numberAt leOf
 absent layout k s e = rw e
 
-pub fits-part : (layout k w x : ℕ) → w ≡ partWidth layout k → x < 256 ^ w → x < 256 ^ width k
-fits-part layout k w x e h = lt-of-lt-of-le h (narrower w (width k) (omega (arith, part-narrow layout k .0, e)))
+-- how far a number of four bytes is from 0
+pub size-low : (x : ℕ) → x < 2147483648 → x ≡ natAbs (signedOf 4 x)
+size-low x h = rw (low x h)
+
+pub size-high : (x : ℕ) → 2147483648 ≤ x → x < 4294967296 → 4294967295 - x + 1 ≡ natAbs (signedOf 4 x)
+unfolding signedOf
+size-high x h f = rw (le-ltb (2 * x) 4294967296 (omega arith)) (omega arith)
 
 pub zero-signed : pos 0 ≡ signedOf 4 0
 unfolding signedOf

@@ -1,11 +1,9 @@
 -- Widths and places of the optional fields. Assumes nothing.
 use mathlib.Core.Path.{_≡_, refl, _∙_}
 use mathlib.Core.Logic.{_⊎_, inl, inr}
-use Prim.Native.Nat.{ℕ, zero, suc, _+_, _*_, _/_, _%_, _^_, _≤_, _<_}
+use Prim.Native.Nat.{ℕ, zero, suc, _+_, _*_, _-_, _≤_, _<_}
 use native.Mathlib.Nat.{mod-lt, zero-lt-suc, zero-add, zero-mul, one-mul}
-use native.Mathlib.Numerals.{add-one}
 use native.Mathlib.Omega.{arith}
-use lib.Pow.{shr-shr}
 use Rattle.time_log.specs.Layout.{mark, width, partWidth, placeOf}
 
 -- a width is 0, 1, 2 or 4
@@ -35,13 +33,6 @@ pub part-is : (layout k : ℕ) → (partWidth layout k ≡ 0) ⊎ (partWidth lay
 unfolding partWidth
 part-is layout k = bit-times (mark layout k) (width k) (mod-lt _ (zero-lt-suc 1))
 
-pub product-small : (b k : ℕ) → b % 2 * width k ≤ 4
-product-small b k = go (bit-times (b % 2) (width k) (mod-lt b (zero-lt-suc 1)))
-  where
-    go : (b % 2 * width k ≡ 0) ⊎ (b % 2 * width k ≡ width k) → b % 2 * width k ≤ 4
-    go (inl e) = omega (arith, e)
-    go (inr e) = omega (arith, e, width-narrow k .small)
-
 pub part-narrow : (layout k : ℕ) → (partWidth layout k ≤ width k) × (2 < partWidth layout k → partWidth layout k ≡ 4)
 part-narrow layout k = go (part-is layout k)
   where
@@ -54,28 +45,35 @@ unfolding placeOf
 place-small layout zero = omega arith
 place-small layout (suc k) = omega (arith, place-small layout k, part-narrow layout k .0, width-narrow k .small)
 
--- a turn of the loop that adds up the widths
-pub place-step : (layout k rest : ℕ) → rest ≡ layout / 2 ^ k → placeOf layout k + rest % 2 * width k ≡ placeOf layout (k + 1)
-unfolding placeOf partWidth
-place-step layout k rest e = rw (add-one k, e)
-
-pub part-step : (layout k rest : ℕ) → rest ≡ layout / 2 ^ k → rest % 2 * width k ≡ partWidth layout k
-unfolding partWidth
-part-step layout k rest e = rw e
-
-pub halved : (layout k rest : ℕ) → rest ≡ layout / 2 ^ k → rest / 2 ≡ layout / 2 ^ (k + 1)
-halved layout k rest e = rw e (shr-shr layout k 1)
-
 pub first-place : (layout : ℕ) → 6 ≡ placeOf layout 0
 unfolding placeOf
 first-place layout = refl
 
-pub part-full : (layout k : ℕ) → (partWidth layout k ≡ 0 → ⊥) → partWidth layout k ≡ width k
-part-full layout k n = go (part-is layout k)
+-- a part without its mark has no bytes, and with it those of its width, which are some
+pub unmarked : (layout k : ℕ) → mark layout k ≡ 0 → partWidth layout k ≡ 0
+unfolding partWidth
+unmarked layout k e = rw e (zero-mul (width k))
+
+pub marked : (layout k : ℕ) → (mark layout k ≡ 0 → ⊥) → partWidth layout k ≡ width k
+unfolding partWidth
+marked layout k d = go (mark layout k) (mod-lt _ (zero-lt-suc 1)) d
   where
-    go : (partWidth layout k ≡ 0) ⊎ (partWidth layout k ≡ width k) → partWidth layout k ≡ width k
-    go (inl e) = absurd (n e)
-    go (inr e) = e
+    go : (b : ℕ) → b < 2 → (b ≡ 0 → ⊥) → b * width k ≡ width k
+    go zero h n = absurd (n refl)
+    go (suc zero) h n = one-mul (width k)
+    go (suc (suc b)) h n = absurd (omega (arith, h))
+
+pub width-some : (k : ℕ) → k ≤ 8 → 0 < width k
+width-some zero h = omega arith
+width-some (suc zero) h = omega arith
+width-some (suc (suc zero)) h = omega arith
+width-some (suc (suc (suc zero))) h = omega arith
+width-some (suc (suc (suc (suc zero)))) h = omega arith
+width-some (suc (suc (suc (suc (suc zero))))) h = omega arith
+width-some (suc (suc (suc (suc (suc (suc zero)))))) h = omega arith
+width-some (suc (suc (suc (suc (suc (suc (suc zero))))))) h = omega arith
+width-some (suc (suc (suc (suc (suc (suc (suc (suc zero)))))))) h = omega arith
+width-some (suc (suc (suc (suc (suc (suc (suc (suc (suc k))))))))) h = absurd (omega (arith, h))
 
 -- places rise from 6 on
 pub place-large : (layout k : ℕ) → 6 ≤ placeOf layout k
@@ -91,3 +89,6 @@ places-rise layout k (suc j) = let e : suc j + k ≡ suc (j + k) = omega arith i
 pub part-inside : (layout k j : ℕ) → placeOf layout k + partWidth layout k ≤ placeOf layout (j + suc k)
 unfolding placeOf
 part-inside layout k j = places-rise layout (suc k) j
+
+pub part-there : (layout k : ℕ) → k ≤ 8 → placeOf layout k + partWidth layout k ≤ placeOf layout 9
+part-there layout k h = let e : 8 - k + suc k ≡ 9 = omega arith in rw e at (part-inside layout k (8 - k))

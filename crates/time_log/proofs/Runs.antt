@@ -1,10 +1,11 @@
 -- Bytes that stand a step apart, taken one by one. Assumes nothing.
-use mathlib.Core.Path.{_≡_, refl}
-use mathlib.Core.Bool.{true, false}
+use mathlib.Core.Path.{_≡_, refl, sym}
+use mathlib.Core.Bool.{Bool, true, false, _||_}
 use mathlib.Core.List.{List, [], _∷_}
 use Prim.Native.Nat.{ℕ, zero, suc, _+_, _-_, _≤_, _<_}
 use native.Mathlib.Omega.{arith}
-use borrow.Author.Tests.{le-leb, lt-leb}
+use borrow.Author.Tests.{lt-leb}
+use lib.Dec.{leb}
 use lib.ListN.{getD}
 use Rattle.wire.specs.Bytes.{numberAt, signedOf}
 use Rattle.time_log.specs.Contents.{spaced, signedFrom}
@@ -15,17 +16,24 @@ unfolding anyOver spaced
 over-none logged step zero s p h = refl
 over-none logged step (suc n) s p h = absurd (omega (arith, h))
 
-pub over-here : (logged step left : ℕ) (s : List ℕ) (p : ℕ) → 0 < left → logged ≤ getD s p 0 → anyOver logged (spaced step left s p) ≡ true
+-- a byte more is looked at, whatever was found before it
+pub over-turn : (over : Bool) (logged step left : ℕ) (s : List ℕ) (p : ℕ) → 0 < left
+    → ((over || leb logged (getD s p 0)) || anyOver logged (spaced step (left - 1) s (p + step))) ≡ (over || anyOver logged (spaced step left s p))
 unfolding anyOver spaced
-over-here logged step zero s p h l = absurd (omega (arith, h))
-over-here logged step (suc n) s p h l = rw (le-leb logged (getD s p 0) l)
+over-turn over logged step zero s p h = absurd (omega (arith, h))
+over-turn true logged step (suc n) s p h = refl
+over-turn false logged step (suc n) s p h = let e : suc n - 1 ≡ n = omega arith in rw e
 
-pub over-next : (logged step left : ℕ) (s : List ℕ) (p : ℕ) → 0 < left → getD s p 0 < logged
-    → anyOver logged (spaced step (left - 1) s (p + step)) ≡ anyOver logged (spaced step left s p)
+pub over-end : (over : Bool) (logged step left : ℕ) (s : List ℕ) (p : ℕ) → left ≤ 0 → over ≡ (over || anyOver logged (spaced step left s p))
+over-end true logged step left s p h = refl
+over-end false logged step left s p h = sym (over-none logged step left s p h)
+
+-- no byte is above 255
+pub over-high : (logged step n : ℕ) (s : List ℕ) (p : ℕ) → ((i : ℕ) → getD s i 0 < 256) → 255 < logged → false ≡ anyOver logged (spaced step n s p)
 unfolding anyOver spaced
-over-next logged step zero s p h l = absurd (omega (arith, h))
-over-next logged step (suc n) s p h l =
-    let e : suc n - 1 ≡ n = omega arith in rw (lt-leb logged (getD s p 0) l, e)
+over-high logged step zero s p b h = refl
+over-high logged step (suc n) s p b h =
+    rw (lt-leb logged (getD s p 0) (omega (arith, b p, h))) (over-high logged step n s (p + step) b h)
 
 -- the first of those that are still to be taken
 pub spaced-step : (step n i : ℕ) (s : List ℕ) (p : ℕ) → i < n → spaced step (n - i) s p ≡ getD s p 0 ∷ spaced step (n - (i + 1)) s (p + step)

@@ -2,6 +2,7 @@
 pub mod Layout
 pub mod Contents
 pub mod Judging
+pub mod Within
 pub mod Reading
 pub mod Logs
 pub mod Joined

@@ -1,17 +1,18 @@
 // Log records: time and position, the fields that a layout marks, and log values by their ordinals.
 ghost use mathlib.Core.Path.{_≡_};
 ghost use mathlib.Core.Bool.{cond};
-ghost use Prim.Native.Nat.{_+_, _*_, _^_, _≤_, _<_};
+ghost use Prim.Native.Nat.{ℕ, _+_, _*_, _^_, _≤_, _<_};
 ghost use lib.Dec.{ltb};
 ghost use lib.IntN.{natAbs};
-ghost use lib.ListN.{length};
+ghost use lib.ListN.{length, getD};
 ghost use lib.Seq.{sets};
-ghost use Rattle.wire.specs.Bytes.{bytesOf, bitsOf};
+ghost use Rattle.wire.specs.Bytes.{bytesOf, signedOf};
 ghost use Rattle.time_log.specs.Layout.{marksSet, width, partWidth, placeOf, recordLength};
-ghost use Rattle.time_log.specs.Contents.{partAt, signedAt, fieldsAt, spaced, signedFrom};
-ghost use Rattle.time_log.specs.Judging.{knownStatus, anyOver, fieldsRefusal, recordRefusal};
+ghost use Rattle.time_log.specs.Contents.{partAt, fieldsAt, spaced, signedFrom};
+ghost use Rattle.time_log.specs.Judging.{knownStatus, anyOver, recordRefusal};
+ghost use Rattle.time_log.specs.Within.{Placed, refusalBy};
 ghost use Rattle.time_log.specs.Reading.{refusedBy, readOf, ordinalsAfter, valuesAfter};
-ghost use Rattle.time_log.specs.Logs.{extentOf, logOf};
+ghost use Rattle.time_log.specs.Logs.{logOf};
 ghost use Rattle.time_log.specs.Joined.{LogsAreRecords};
 ghost use Rattle.time_log.specs.Writing.{keptNumber, keptSigned, keptFields, bytesBefore, pairsFrom, writeRefusal, writtenAs, bytesAfter};
 ghost use Rattle.time_log.specs.Back.{ReadsBack};
@@ -54,84 +55,71 @@ pub fn optional_fields(layout: u16) -> Marks
     }
 }
 
-fn width_of(k: usize) -> usize
-    ensures { λ r. ⌜ r ≡ width k ⌝ }
+// Where the optional fields stand, each behind those before it, and the count byte behind them all. North is always at 6.
+struct Places {
+    east: usize,
+    up: usize,
+    status: usize,
+    pdop: usize,
+    hdop: usize,
+    satellites: usize,
+    gps_time: usize,
+    gps_date: usize,
+    count: usize,
+}
+
+fn places_of(layout: u16) -> Places
+    ensures { λ r. ⌜ Placed layout r ⌝ }
 {
-    let widths = [4usize, 4, 4, 1, 2, 2, 1, 4, 2];
-    if k < 9 {
-        return widths[k];
-    }
-    0
-}
-
-// Where an optional field stands, and its bytes: 0 where it is absent. Field 9 is the count byte's place.
-struct Part {
-    at: usize,
-    width: usize,
-}
-
-fn place(layout: u16, k: usize) -> Part
-    requires { ⌜ k ≤ 9 ⌝ }
-    ensures { λ r. ⌜ (r .at ≡ placeOf layout k) × (r .width ≡ partWidth layout k) ⌝ }
-{
-    let mut at = 6usize;
-    let mut rest = layout as usize;
-    let mut i = 0usize;
-    while i < k {
-        at += rest % 2 * width_of(i);
-        rest = rest / 2;
-        i += 1;
-    }
-    Part {
-        at,
-        width: rest % 2 * width_of(k),
+    let marks = layout as usize;
+    let east = 6 + marks % 2 * 4;
+    let up = east + marks / 2 % 2 * 4;
+    let status = up + marks / 4 % 2 * 4;
+    let pdop = status + marks / 8 % 2;
+    let hdop = pdop + marks / 16 % 2 * 2;
+    let satellites = hdop + marks / 32 % 2 * 2;
+    let gps_time = satellites + marks / 64 % 2;
+    let gps_date = gps_time + marks / 128 % 2 * 4;
+    let count = gps_date + marks / 256 % 2 * 2;
+    Places {
+        east,
+        up,
+        status,
+        pdop,
+        hdop,
+        satellites,
+        gps_time,
+        gps_date,
+        count,
     }
 }
 
-// An optional field as a number.
-fn part_number(bytes: &[u8], layout: u16, k: usize) -> u32
-    requires { ⌜ k ≤ 9 ⌝ }
+// Optional field k as a number: its w bytes at its place, or 0 where it is absent.
+fn part(bytes: &[u8], layout: u16, k: usize, at: usize, w: usize) -> u32
+    requires { ⌜ (k ≤ 8) × (at ≡ placeOf layout k) × (w ≡ width k) × (placeOf layout 9 ≤ length (now bytes)) ⌝ }
     ensures { λ r. ⌜ (r ≡ partAt layout (now (bytes .entry)) k) × (r < 256 ^ width k) ⌝ }
 {
-    let found = place(layout, k);
-    if found.width == 0 {
+    if (layout >> k) % 2 == 0 {
         return 0;
     }
-    if found.width == 1 {
-        return wire::read_u8(bytes, found.at) as u32;
-    }
-    if found.width == 2 {
-        return wire::read_u16(bytes, found.at) as u32;
-    }
-    wire::read_u32(bytes, found.at)
+    wire::number(bytes, at, w) as u32
 }
 
-// An optional field of four bytes as a signed number.
-fn part_signed(bytes: &[u8], layout: u16, k: usize) -> i32
-    requires { ⌜ (k ≤ 9) × (width k ≡ 4) ⌝ }
-    ensures { λ r. ⌜ r ≡ signedAt layout (now (bytes .entry)) k ⌝ }
-{
-    let found = place(layout, k);
-    if found.width == 0 {
-        return 0;
-    }
-    wire::read_i32(bytes, found.at)
-}
-
-fn fields_of(bytes: &[u8], layout: u16) -> Fields
+fn fields_of(bytes: &[u8], layout: u16, places: Places) -> Fields
+    requires { ⌜ Placed layout places × (placeOf layout 9 ≤ length (now bytes)) ⌝ }
     ensures { λ r. ⌜ r ≡ fieldsAt layout (now (bytes .entry)) ⌝ }
 {
-    let time = wire::read_u32(bytes, 0);
-    let days = wire::read_u16(bytes, 4);
-    let north = part_signed(bytes, layout, 0);
-    let east = part_signed(bytes, layout, 1);
-    let up = part_signed(bytes, layout, 2);
-    let status = part_number(bytes, layout, 3) as u8;
-    let pdop = part_number(bytes, layout, 4) as u16;
-    let hdop = part_number(bytes, layout, 5) as u16;
-    let satellites = part_number(bytes, layout, 6) as u8;
-    let gps_time = part_number(bytes, layout, 7);
-    let gps_date = part_number(bytes, layout, 8) as u16;
+    let time = wire::number(bytes, 0, 4) as u32;
+    let days = wire::number(bytes, 4, 2) as u16;
+    let north = wire::signed(part(bytes, layout, 0, 6, 4));
+    let east = wire::signed(part(bytes, layout, 1, places.east, 4));
+    let up = wire::signed(part(bytes, layout, 2, places.up, 4));
+    let status = part(bytes, layout, 3, places.status, 1) as u8;
+    let pdop = part(bytes, layout, 4, places.pdop, 2) as u16;
+    let hdop = part(bytes, layout, 5, places.hdop, 2) as u16;
+    let satellites = part(bytes, layout, 6, places.satellites, 1) as u8;
+    let gps_time = part(bytes, layout, 7, places.gps_time, 4);
+    let gps_date = part(bytes, layout, 8, places.gps_date, 2) as u16;
     Fields {
         time,
         days,
@@ -162,36 +150,50 @@ fn known_status(status: u8) -> bool
     (status <= 8) | ((14 <= status) & (status <= 15))
 }
 
-// Whether one of n ordinals, each so many bytes behind the last, is not below the count of log values.
-fn any_over(s: &[u8], at: usize, step: usize, n: usize, logged: usize) -> bool
-    requires { ⌜ (step ≤ 5) × (at + 5 * n < 2 ^ 64) ⌝ }
-    ensures { λ r. ⌜ r ≡ anyOver logged (spaced step n (now (s .entry)) at) ⌝ }
+// How far a field of four bytes is from 0 as a signed number.
+fn size_of(x: u32) -> u32
+    ensures { λ r. ⌜ r ≡ natAbs (signedOf 4 x) ⌝ }
 {
+    if x < 2147483648 {
+        return x;
+    }
+    4294967295 - x + 1
+}
+
+// Whether one of n ordinals, five bytes apart, is not below the count of log values. All are looked at, which is faster than to
+// stop at the first; no byte reaches a count above 255.
+fn any_over(s: &[u8], at: usize, n: usize, logged: usize) -> bool
+    requires { ⌜ (at + 5 * n ≤ length (now s)) × ((i : ℕ) → getD (now s) i 0 < 256) ⌝ }
+    ensures { λ r. ⌜ r ≡ anyOver logged (spaced 5 n (now (s .entry)) at) ⌝ }
+{
+    if 255 < logged {
+        return false;
+    }
+    let limit = logged as u8;
+    let mut over = false;
     let mut p = at;
     let mut left = n;
     while 0 < left {
-        if logged <= wire::read_u8(s, p) as usize {
-            return true;
-        }
-        p += step;
+        over = over | (limit <= s[p]);
+        p += 5;
         left -= 1;
     }
-    false
+    over
 }
 
-fn fields_refusal(fields: Fields, over: bool) -> u32
-    ensures { λ r. ⌜ r ≡ fieldsRefusal fields over ⌝ }
+fn fields_refusal(time: u32, north: u32, east: u32, status: u8, over: bool) -> u32
+    ensures { λ r. ⌜ r ≡ refusalBy time north east status over ⌝ }
 {
-    if 86399999 < fields.time {
+    if 86399999 < time {
         return 41;
     }
-    if 900000000 < magnitude(fields.north) {
+    if 900000000 < north {
         return 42;
     }
-    if 1800000000 < magnitude(fields.east) {
+    if 1800000000 < east {
         return 43;
     }
-    if !known_status(fields.status) {
+    if !known_status(status) {
         return 44;
     }
     if over {
@@ -200,22 +202,24 @@ fn fields_refusal(fields: Fields, over: bool) -> u32
     0
 }
 
-fn refusal(bytes: &[u8], layout: u16, logged: usize) -> u32
+fn refusal(bytes: &[u8], layout: u16, places: Places, logged: usize) -> u32
+    requires { ⌜ (layout ≤ 511) × Placed layout places ⌝ }
     ensures { λ r. ⌜ r ≡ recordRefusal layout logged (now (bytes .entry)) ⌝ }
 {
-    if 511 < layout {
-        return 47;
-    }
-    let at = place(layout, 9).at;
-    if bytes.len() <= at {
+    let count = places.count;
+    if bytes.len() <= count {
         return 40;
     }
-    let n = wire::read_u8(bytes, at) as usize;
-    if bytes.len() < at + 1 + 5 * n {
+    let n = bytes[count] as usize;
+    if bytes.len() < count + 1 + 5 * n {
         return 40;
     }
-    let over = any_over(bytes, at + 1, 5, n, logged);
-    fields_refusal(fields_of(bytes, layout), over)
+    let time = wire::number(bytes, 0, 4) as u32;
+    let north = size_of(part(bytes, layout, 0, 6, 4));
+    let east = size_of(part(bytes, layout, 1, places.east, 4));
+    let status = part(bytes, layout, 3, places.status, 1) as u8;
+    let over = any_over(bytes, count + 1, n, logged);
+    fields_refusal(time, north, east, status, over)
 }
 
 // What reading a record gives: number 0 with its length, its count of values and its fields, or a refusal with zeros.
@@ -252,26 +256,26 @@ fn refused(number: u32) -> Record
 }
 
 fn fill_ordinals(bytes: &[u8], at: usize, ordinals: &mut [u8], n: usize)
-    requires { ⌜ (n ≤ length (now ordinals)) × (at + 5 * n < 2 ^ 64) ⌝ }
+    requires { ⌜ (n ≤ length (now ordinals)) × (at + 5 * n ≤ length (now bytes)) ⌝ }
     ensures { λ _. ⌜ now (ordinals .exit) ≡ sets (now (ordinals .entry)) 0 (spaced 5 n (now (bytes .entry)) at) ⌝ }
 {
     let mut p = at;
     let mut i = 0usize;
     while i < n {
-        ordinals[i] = wire::read_u8(bytes, p);
+        ordinals[i] = bytes[p];
         p += 5;
         i += 1;
     }
 }
 
 fn fill_values(bytes: &[u8], at: usize, values: &mut [i32], n: usize)
-    requires { ⌜ (n ≤ length (now values)) × (n ≤ 255) × (at + 5 * n < 2 ^ 64) ⌝ }
+    requires { ⌜ (n ≤ length (now values)) × (n ≤ 255) × (at + 5 * n ≤ length (now bytes) + 1) ⌝ }
     ensures { λ _. ⌜ now (values .exit) ≡ sets (now (values .entry)) 0 (signedFrom n (now (bytes .entry)) at) ⌝ }
 {
     let mut p = at;
     let mut i = 0usize;
     while i < n {
-        values[i] = wire::read_i32(bytes, p);
+        values[i] = wire::signed(wire::number(bytes, p, 4) as u32);
         p += 5;
         i += 1;
     }
@@ -287,18 +291,22 @@ pub fn read_record(
 ) -> Record
     ensures { λ r. ⌜ (r ≡ readOf layout logged (now (bytes .entry)) (length (now (ordinals .entry))) (length (now (values .entry)))) × (now (ordinals .exit) ≡ ordinalsAfter layout logged (now (bytes .entry)) (now (ordinals .entry)) (now (values .entry))) × (now (values .exit) ≡ valuesAfter layout logged (now (bytes .entry)) (now (ordinals .entry)) (now (values .entry))) ⌝ }
 {
-    let number = refusal(bytes, layout, logged);
+    if 511 < layout {
+        return refused(47);
+    }
+    let places = places_of(layout);
+    let number = refusal(bytes, layout, places, logged);
     if number != 0 {
         return refused(number);
     }
-    let at = place(layout, 9).at;
-    let n = wire::read_u8(bytes, at) as usize;
+    let at = places.count;
+    let n = bytes[at] as usize;
     if (ordinals.len() < n) | (values.len() < n) {
         return refused(46);
     }
     fill_ordinals(bytes, at + 1, ordinals, n);
     fill_values(bytes, at + 2, values, n);
-    let fields = fields_of(bytes, layout);
+    let fields = fields_of(bytes, layout, places);
     Record {
         number: 0,
         length: at + 1 + 5 * n,
@@ -315,13 +323,6 @@ pub struct Log {
     pub start: usize,
 }
 
-fn record_extent(bytes: &[u8], layout: u16) -> usize
-    ensures { λ r. ⌜ r ≡ extentOf layout (now (bytes .entry)) ⌝ }
-{
-    let at = place(layout, 9).at;
-    at + 1 + 5 * wire::read_u8(bytes, at) as usize
-}
-
 // Reads the records to the end of the bytes.
 pub fn read_log(bytes: &[u8], layout: u16, logged: usize) -> Log
     ensures { λ r. ⌜ r ≡ logOf layout logged (now (bytes .entry)) ⌝ }
@@ -333,11 +334,13 @@ pub fn read_log(bytes: &[u8], layout: u16, logged: usize) -> Log
             start: 0,
         };
     }
+    let places = places_of(layout);
+    let count = places.count;
     let mut at = 0usize;
     let mut n = 0usize;
     while at < bytes.len() {
         let rest = &bytes[at..];
-        let number = refusal(rest, layout, logged);
+        let number = refusal(rest, layout, places, logged);
         if number != 0 {
             return Log {
                 number,
@@ -345,7 +348,7 @@ pub fn read_log(bytes: &[u8], layout: u16, logged: usize) -> Log
                 start: at,
             };
         }
-        at += record_extent(rest, layout);
+        at += count + 1 + 5 * rest[count] as usize;
         n += 1;
     }
     Log {
@@ -368,20 +371,20 @@ pub struct Written {
 }
 
 fn kept_number(layout: u16, k: usize, x: u32) -> u32
-    requires { ⌜ k ≤ 9 ⌝ }
+    requires { ⌜ k ≤ 8 ⌝ }
     ensures { λ r. ⌜ (r ≡ keptNumber layout k x) × (r ≤ x) ⌝ }
 {
-    if place(layout, k).width == 0 {
+    if (layout >> k) % 2 == 0 {
         return 0;
     }
     x
 }
 
 fn kept_signed(layout: u16, k: usize, z: i32) -> i32
-    requires { ⌜ k ≤ 9 ⌝ }
+    requires { ⌜ k ≤ 8 ⌝ }
     ensures { λ r. ⌜ r ≡ keptSigned layout k z ⌝ }
 {
-    if place(layout, k).width == 0 {
+    if (layout >> k) % 2 == 0 {
         return 0;
     }
     z
@@ -415,54 +418,40 @@ fn kept(layout: u16, fields: Fields) -> Fields
     }
 }
 
-// Writes an optional field, where it is marked.
-fn put_part(to: &mut [u8], layout: u16, k: usize, x: u32)
-    requires { ⌜ (k ≤ 9) × (x < 256 ^ width k) × (placeOf layout k + partWidth layout k ≤ length (now to)) ⌝ }
+// Writes optional field k in its w bytes at its place, where it is marked.
+fn put_part(to: &mut [u8], layout: u16, k: usize, at: usize, w: usize, x: u32)
+    requires { ⌜ (k ≤ 8) × (at ≡ placeOf layout k) × (w ≡ width k) × (placeOf layout 9 ≤ length (now to)) ⌝ }
     ensures { λ _. ⌜ now (to .exit) ≡ sets (now (to .entry)) (placeOf layout k) (bytesOf (partWidth layout k) x) ⌝ }
 {
-    let found = place(layout, k);
-    let at = found.at;
-    if found.width == 0 {
+    if (layout >> k) % 2 == 0 {
         return;
     }
-    if found.width == 1 {
-        to[at] = x as u8;
-        return;
-    }
-    if found.width == 2 {
-        wire::write_u16(to, at, x as u16);
-        return;
-    }
-    wire::write_u32(to, at, x);
-}
-
-fn put_signed(to: &mut [u8], layout: u16, k: usize, z: i32)
-    requires { ⌜ (k ≤ 9) × (width k ≡ 4) × (placeOf layout k + partWidth layout k ≤ length (now to)) ⌝ }
-    ensures { λ _. ⌜ now (to .exit) ≡ sets (now (to .entry)) (placeOf layout k) (bytesOf (partWidth layout k) (bitsOf 4 z)) ⌝ }
-{
-    let found = place(layout, k);
-    if found.width == 0 {
-        return;
-    }
-    wire::write_i32(to, found.at, z);
+    wire::put(to, at, w, x as u64);
 }
 
 // Writes the time, the days and the marked fields.
-fn put_fields(to: &mut [u8], layout: u16, fields: Fields)
-    requires { ⌜ placeOf layout 9 ≤ length (now to) ⌝ }
+fn put_fields(to: &mut [u8], layout: u16, places: Places, fields: Fields)
+    requires { ⌜ Placed layout places × (placeOf layout 9 ≤ length (now to)) ⌝ }
     ensures { λ _. ⌜ now (to .exit) ≡ sets (now (to .entry)) 0 (bytesBefore layout fields 9) ⌝ }
 {
-    wire::write_u32(to, 0, fields.time);
-    wire::write_u16(to, 4, fields.days);
-    put_signed(to, layout, 0, fields.north);
-    put_signed(to, layout, 1, fields.east);
-    put_signed(to, layout, 2, fields.up);
-    put_part(to, layout, 3, fields.status as u32);
-    put_part(to, layout, 4, fields.pdop as u32);
-    put_part(to, layout, 5, fields.hdop as u32);
-    put_part(to, layout, 6, fields.satellites as u32);
-    put_part(to, layout, 7, fields.gps_time);
-    put_part(to, layout, 8, fields.gps_date as u32);
+    wire::put(to, 0, 4, fields.time as u64);
+    wire::put(to, 4, 2, fields.days as u64);
+    put_part(to, layout, 0, 6, 4, wire::bits(fields.north));
+    put_part(to, layout, 1, places.east, 4, wire::bits(fields.east));
+    put_part(to, layout, 2, places.up, 4, wire::bits(fields.up));
+    put_part(to, layout, 3, places.status, 1, fields.status as u32);
+    put_part(to, layout, 4, places.pdop, 2, fields.pdop as u32);
+    put_part(to, layout, 5, places.hdop, 2, fields.hdop as u32);
+    put_part(
+        to,
+        layout,
+        6,
+        places.satellites,
+        1,
+        fields.satellites as u32,
+    );
+    put_part(to, layout, 7, places.gps_time, 4, fields.gps_time);
+    put_part(to, layout, 8, places.gps_date, 2, fields.gps_date as u32);
 }
 
 // Writes n ordinals, each with its value behind it.
@@ -474,10 +463,28 @@ fn put_pairs(to: &mut [u8], at: usize, ordinals: &[u8], values: &[i32], n: usize
     let mut i = 0usize;
     while i < n {
         to[p] = ordinals[i];
-        wire::write_i32(to, p + 1, values[i]);
+        wire::put(to, p + 1, 4, wire::bits(values[i]) as u64);
         p += 5;
         i += 1;
     }
+}
+
+// Whether one of the first n ordinals is not below the count of log values.
+fn any_of_list_over(s: &[u8], n: usize, logged: usize) -> bool
+    requires { ⌜ (n ≤ length (now s)) × ((i : ℕ) → getD (now s) i 0 < 256) ⌝ }
+    ensures { λ r. ⌜ r ≡ anyOver logged (spaced 1 n (now (s .entry)) 0) ⌝ }
+{
+    if 255 < logged {
+        return false;
+    }
+    let limit = logged as u8;
+    let mut over = false;
+    let mut i = 0usize;
+    while i < n {
+        over = over | (limit <= s[i]);
+        i += 1;
+    }
+    over
 }
 
 // Writes a record of the first so many ordinals and values from the start of the bytes on.
@@ -505,11 +512,15 @@ pub fn write_record(
         };
     }
     let written = kept(layout, fields);
-    let number = fields_refusal(written, any_over(ordinals, 0, 1, count, logged));
+    let north = magnitude(written.north);
+    let east = magnitude(written.east);
+    let over = any_of_list_over(ordinals, count, logged);
+    let number = fields_refusal(written.time, north, east, written.status, over);
     if number != 0 {
         return Written { number, length: 0 };
     }
-    let at = place(layout, 9).at;
+    let places = places_of(layout);
+    let at = places.count;
     let length = at + 1 + 5 * count;
     if to.len() < length {
         return Written {
@@ -517,7 +528,7 @@ pub fn write_record(
             length: 0,
         };
     }
-    put_fields(to, layout, written);
+    put_fields(to, layout, places, written);
     to[at] = count as u8;
     put_pairs(to, at + 1, ordinals, values, count);
     Written { number: 0, length }

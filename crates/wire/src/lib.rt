@@ -1,4 +1,5 @@
-// Little-endian numbers in bytes, and copying. Every public function but `word` and `pair` takes any slice, place and number.
+// Little-endian numbers in bytes, and copying. Every public function takes any slice, place and number but `number`, `word`,
+// `pair` and `put`, whose callers know that the bytes are there.
 ghost use mathlib.Core.Path.{_≡_};
 ghost use Prim.Native.Nat.{_+_, _≤_, _<_, _^_};
 ghost use lib.Dec.{leb};
@@ -8,7 +9,7 @@ ghost use Rattle.wire.specs.Bytes.{bytesOf, numberAt, signedOf, bitsOf, 
 ghost use Rattle.wire.specs.ReadBack.{Unsigned, Signed32};
 
 // The number in w bytes that are all there: from the highest byte down.
-fn number(s: &[u8], at: usize, w: usize) -> u64
+pub fn number(s: &[u8], at: usize, w: usize) -> u64
     requires { ⌜ (w ≤ 8) × (at + w ≤ length (now s)) ⌝ }
     ensures { λ r. ⌜ (r ≡ numberAt w (now (s .entry)) at) × (r < 256 ^ w) ⌝ }
 {
@@ -80,7 +81,7 @@ pub fn pair(s: &[u8], at: usize) -> u16
 }
 
 // Two's complement, without a cast that loses bits.
-fn signed(x: u32) -> i32
+pub fn signed(x: u32) -> i32
     ensures { λ r. ⌜ r ≡ signedOf 4 x ⌝ }
 {
     if x < 2147483648 {
@@ -89,7 +90,7 @@ fn signed(x: u32) -> i32
     -1 - ((4294967295 - x) as i32)
 }
 
-fn bits(x: i32) -> u32
+pub fn bits(x: i32) -> u32
     ensures { λ r. ⌜ r ≡ bitsOf 4 x ⌝ }
 {
     if x < 0 {
@@ -105,7 +106,7 @@ pub fn read_i32(s: &[u8], at: usize) -> i32
 }
 
 // The w lowest bytes of x, where there is room for them.
-fn put(d: &mut [u8], at: usize, w: usize, x: u64)
+pub fn put(d: &mut [u8], at: usize, w: usize, x: u64)
     requires { ⌜ at + w ≤ length (now d) ⌝ }
     ensures { λ _. ⌜ now (d .exit) ≡ sets (now (d .entry)) at (bytesOf w x) ⌝ }
 {

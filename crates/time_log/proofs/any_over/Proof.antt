@@ -1,34 +1,34 @@
--- `time_log::any_over` meets its contract: what is left to look at decides the whole. Assumes nothing.
+-- `time_log::any_over` meets its contract: what is found and what is left to look at decide the whole. Assumes nothing.
 use mathlib.Core.Path.{_≡_, refl, sym, _∙_}
+use mathlib.Core.Bool.{_||_}
 use Prim.Native.Nat.{_+_, _*_, _-_, _≤_}
 use native.Mathlib.Omega.{arith}
-use borrow.Author.Needs.{needs}
 use Rattle.time_log.specs.Contents.{spaced}
 use Rattle.time_log.specs.Judging.{anyOver}
-use Rattle.time_log.proofs.Runs.{over-none, over-here, over-next}
+use Rattle.time_log.proofs.Runs.{over-high, over-turn, over-end}
 use Rattle.time_log.proofs.any_over.Statement.{statement}
 use Rattle.time_log.proofs.any_over.Tie as tie
 
 abbrev Inv-loop : tie.InvT-loop
-Inv-loop s at step n logged p₀ left₀ p left = (anyOver logged (spaced step left s p) ≡ anyOver logged (spaced step n s at)) × (p + 5 * left ≤ at + 5 * n)
+Inv-loop s at n logged limit over₀ p₀ left₀ over p left =
+    ((over || anyOver logged (spaced 5 left s p)) ≡ anyOver logged (spaced 5 n s at)) × (p + 5 * left ≡ at + 5 * n) × (limit ≡ logged)
 
 abbrev μ-loop : tie.MeasureT-loop
-μ-loop s at step n logged p₀ left₀ p left = left
-
-loop-holds : tie.Need-loop-holds Inv-loop μ-loop
-loop-holds c = (refl, omega arith)
-
-read-u8-requires : tie.Need-read-u8-requires Inv-loop μ-loop
-read-u8-requires c κs = search needs
-
-cast-if1 : tie.Need-cast-if1 Inv-loop μ-loop
-cast-if1 c = search needs
+μ-loop s at n logged limit over₀ p₀ left₀ over p left = left
 
 returns : tie.Need-returns Inv-loop μ-loop
 returns c =
-    let a = c .before .before .before .before .before .args in
-    let l = c .before .before .before .loop in
-    sym (over-here (a .logged) (a .step) (l .left) (a .s .now) (l .p) (c .before .before .loop-test .taken) (rw (c .before .read-u8 .ensures) at (c .if1 .taken))) ∙ l .inv .0
+    let a = c .before .args in
+    over-high (a .logged) 5 (a .n) (a .s .now) (a .at) (c .before .pre .1) (c .if1 .taken)
+
+cast-limit : tie.Need-cast-limit Inv-loop μ-loop
+cast-limit c = omega arith
+
+loop-holds : tie.Need-loop-holds Inv-loop μ-loop
+loop-holds c = (refl, refl, refl)
+
+shared-slice-read-over : tie.Need-shared-slice-read-over Inv-loop μ-loop
+shared-slice-read-over c = omega arith
 
 add-p : tie.Need-add-p Inv-loop μ-loop
 add-p c = omega arith
@@ -41,15 +41,15 @@ loop-less c = omega arith
 
 loop-again : tie.Need-loop-again Inv-loop μ-loop
 loop-again c =
-    let a = c .before .before .before .before .before .args in
-    let l = c .before .before .before .loop in
-    (over-next (a .logged) (a .step) (l .left) (a .s .now) (l .p) (c .before .before .loop-test .taken) (rw (c .before .read-u8 .ensures) at (c .if1 .left)) ∙ l .inv .0, omega arith)
+    let a = c .before .before .before .before .args in
+    let l = c .before .before .loop in
+    (rw (l .inv .2) (over-turn (l .over) (a .logged) 5 (l .left) (a .s .now) (l .p) (c .before .loop-test .taken) ∙ l .inv .0), omega arith, l .inv .2)
 
 returns-2 : tie.Need-returns-2 Inv-loop μ-loop
 returns-2 c =
     let a = c .before .before .before .args in
     let l = c .before .loop in
-    sym (over-none (a .logged) (a .step) (l .left) (a .s .now) (l .p) (c .loop-test .left)) ∙ l .inv .0
+    over-end (l .over) (a .logged) 5 (l .left) (a .s .now) (l .p) (c .loop-test .left) ∙ l .inv .0
 
 pub any-over-spec : {M : Type 1} → statement M
 any-over-spec =
@@ -57,10 +57,10 @@ any-over-spec =
     (tie.spec
     Inv-loop
     μ-loop
-    loop-holds
-    read-u8-requires
-    cast-if1
     returns
+    cast-limit
+    loop-holds
+    shared-slice-read-over
     add-p
     sub-left
     loop-less

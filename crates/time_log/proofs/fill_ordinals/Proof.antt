@@ -1,10 +1,9 @@
 -- `time_log::fill_ordinals` meets its contract: what is still to be stored, stored now, gives the whole. Assumes nothing.
-use mathlib.Core.Path.{_≡_, refl}
+use mathlib.Core.Path.{_≡_, refl, _∙_}
 use Prim.Native.Nat.{_+_, _*_, _-_, _≤_}
 use native.Mathlib.Nat.{sub-zero}
 use native.Mathlib.Numerals.{add-one}
 use native.Mathlib.Omega.{arith}
-use borrow.Author.Needs.{needs}
 use lib.ListN.{length, length-set}
 use lib.Seq.{sets}
 use Rattle.time_log.specs.Contents.{spaced}
@@ -22,8 +21,8 @@ abbrev μ-loop : tie.MeasureT-loop
 loop-holds : tie.Need-loop-holds Inv-loop μ-loop
 loop-holds c = (omega arith, refl, omega arith, rw sub-zero)
 
-read-u8-requires : tie.Need-read-u8-requires Inv-loop μ-loop
-read-u8-requires c κs = search needs
+shared-slice-read-ordinals : tie.Need-shared-slice-read-ordinals Inv-loop μ-loop
+shared-slice-read-ordinals c = omega arith
 
 slice-write-ordinals : tie.Need-slice-write-ordinals Inv-loop μ-loop
 slice-write-ordinals c = omega arith
@@ -39,12 +38,12 @@ loop-less c = omega arith
 
 loop-again : tie.Need-loop-again Inv-loop μ-loop
 loop-again c =
-    let a = c .before .before .before .before .before .args in
+    let a = c .before .before .before .args in
     let l = c .before .before .loop in (
       omega arith,
       simp length-set (l .inv .1),
       omega arith,
-      rw (c .read-u8 .ensures, add-one (l .i)) (rw (spaced-step 5 (a .n) (l .i) (a .bytes .now) (l .p) (c .before .loop-test .taken), add-one (l .i)) at (l .inv .3)),
+      rw (add-one (l .i)) (rw (spaced-step 5 (a .n) (l .i) (a .bytes .now) (l .p) (c .before .loop-test .taken), add-one (l .i)) at (l .inv .3)),
     )
 
 same-length : tie.Need-same-length Inv-loop μ-loop
@@ -52,7 +51,7 @@ same-length c = c .before .loop .inv .1
 
 returns : tie.Need-returns Inv-loop μ-loop
 returns c =
-    let a = c .before .before .before .before .args in
+    let a = c .before .before .args in
     let l = c .before .loop in
     rw (spaced-done 5 (a .n) (l .i) (a .bytes .now) (l .p) (c .loop-test .left)) at (l .inv .3)
 
@@ -63,7 +62,7 @@ fill-ordinals-spec =
     Inv-loop
     μ-loop
     loop-holds
-    read-u8-requires
+    shared-slice-read-ordinals
     slice-write-ordinals
     add-p
     add-i

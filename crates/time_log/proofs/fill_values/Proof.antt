@@ -1,5 +1,5 @@
 -- `time_log::fill_values` meets its contract: what is still to be stored, stored now, gives the whole. Assumes nothing.
-use mathlib.Core.Path.{_≡_, refl}
+use mathlib.Core.Path.{_≡_, refl, _∙_}
 use Prim.Native.Nat.{_+_, _*_, _-_, _≤_}
 use native.Mathlib.Nat.{sub-zero}
 use native.Mathlib.Numerals.{add-one}
@@ -24,11 +24,17 @@ abbrev μ-loop : tie.MeasureT-loop
 loop-holds : tie.Need-loop-holds Inv-loop μ-loop
 loop-holds c = (omega arith, refl, omega arith, rw sub-zero)
 
-read-i32-requires : tie.Need-read-i32-requires Inv-loop μ-loop
-read-i32-requires c κs = search needs
+number-requires : tie.Need-number-requires Inv-loop μ-loop
+number-requires c κs = (omega arith, omega arith)
 
-mul-t9 : tie.Need-mul-t9 Inv-loop μ-loop
-mul-t9 c = omega arith
+cast-signed : tie.Need-cast-signed Inv-loop μ-loop
+cast-signed c = omega (arith, c .number .ensures .1)
+
+signed-requires : tie.Need-signed-requires Inv-loop μ-loop
+signed-requires c κs = search needs
+
+mul-t11 : tie.Need-mul-t11 Inv-loop μ-loop
+mul-t11 c = omega arith
 
 slice-set-from-values : tie.Need-slice-set-from-values Inv-loop μ-loop
 slice-set-from-values c = omega arith
@@ -44,12 +50,12 @@ loop-less c = omega arith
 
 loop-again : tie.Need-loop-again Inv-loop μ-loop
 loop-again c =
-    let a = c .before .before .before .before .args in
-    let l = c .before .before .loop in (
+    let a = c .before .before .before .before .before .args in
+    let l = c .before .before .before .loop in (
       omega arith,
       simp length-set (l .inv .1),
       omega arith,
-      rw (toZ-ofZ w32 (c .read-i32 .result) (record { sfits = c .read-i32 .ok }), c .read-i32 .ensures, add-one (l .i)) (rw (signed-step (a .n) (l .i) (a .bytes .now) (l .p) (c .before .loop-test .taken), add-one (l .i)) at (l .inv .3)),
+      rw (toZ-ofZ w32 (c .signed .result) (record { sfits = c .signed .ok }), c .signed .ensures, c .before .number .ensures .0, add-one (l .i)) (rw (signed-step (a .n) (l .i) (a .bytes .now) (l .p) (c .before .before .loop-test .taken), add-one (l .i)) at (l .inv .3)),
     )
 
 same-length : tie.Need-same-length Inv-loop μ-loop
@@ -68,8 +74,10 @@ fill-values-spec =
     Inv-loop
     μ-loop
     loop-holds
-    read-i32-requires
-    mul-t9
+    number-requires
+    cast-signed
+    signed-requires
+    mul-t11
     slice-set-from-values
     add-p
     add-i

@@ -29,17 +29,26 @@ shared-slice-read-to c = omega arith
 slice-write-to : tie.Need-slice-write-to Inv-loop μ-loop
 slice-write-to c = omega arith
 
-add-write-i32 : tie.Need-add-write-i32 Inv-loop μ-loop
-add-write-i32 c = omega arith
+add-put : tie.Need-add-put Inv-loop μ-loop
+add-put c = omega arith
 
-mul-write-i32 : tie.Need-mul-write-i32 Inv-loop μ-loop
-mul-write-i32 c = omega arith
+mul-bits : tie.Need-mul-bits Inv-loop μ-loop
+mul-bits c = omega arith
 
-shared-slice-copy-out-write-i32 : tie.Need-shared-slice-copy-out-write-i32 Inv-loop μ-loop
-shared-slice-copy-out-write-i32 c = omega arith
+shared-slice-copy-out-bits : tie.Need-shared-slice-copy-out-bits Inv-loop μ-loop
+shared-slice-copy-out-bits c = omega arith
 
-write-i32-requires : tie.Need-write-i32-requires Inv-loop μ-loop
-write-i32-requires c κs = search needs
+bits-requires : tie.Need-bits-requires Inv-loop μ-loop
+bits-requires c κs = search needs
+
+cast-put : tie.Need-cast-put Inv-loop μ-loop
+cast-put c = search needs
+
+put-requires : tie.Need-put-requires Inv-loop μ-loop
+put-requires c κs =
+    let a = c .before .before .before .before .before .before .before .before .args in
+    let l = c .before .before .before .before .before .loop in
+    omega (arith, length-set (l .to) (l .p) (getD (a .ordinals .now) (l .i) 0), l .inv .1, l .inv .2, c .before .before .before .before .loop-test .taken, c .before .before .before .before .before .before .before .before .pre .3)
 
 add-p : tie.Need-add-p Inv-loop μ-loop
 add-p c = omega arith
@@ -52,10 +61,13 @@ loop-less c = omega arith
 
 loop-again : tie.Need-loop-again Inv-loop μ-loop
 loop-again c =
-    let a = c .before .before .before .before .before .before .before .before .before .before .args in
-    let l = c .before .before .before .before .before .before .before .loop in
-    let e = c .before .before .write-i32 .ensures .1 in
-    (omega arith, c .before .before .write-i32 .kept .0 ∙ length-set (l .to) (l .p) (getD (a .ordinals .now) (l .i) 0) ∙ l .inv .1, omega arith, pair-laid (l .to) _ (a .ordinals .now) (a .values .now) (l .p) (l .i) (a .n) (c .before .before .before .before .before .before .loop-test .taken) (omega arith) (rw (toZ-ofZ w32 _ (record { sfits = c .before .before .before .write-i32-arg2 .given })) at e) ∙ l .inv .3)
+    let a = c .before .before .before .before .before .before .before .before .before .before .before .args in
+    let l = c .before .before .before .before .before .before .before .before .loop in (
+      omega arith,
+      c .before .before .put .kept .0 ∙ length-set (l .to) (l .p) (getD (a .ordinals .now) (l .i) 0) ∙ l .inv .1,
+      omega arith,
+      pair-laid (l .to) _ (a .ordinals .now) (a .values .now) (l .p) (l .i) (a .n) (c .before .before .before .before .before .before .before .loop-test .taken) (rw (c .before .before .before .bits .ensures, toZ-ofZ w32 _ (record { sfits = c .before .before .before .before .bits-arg .given })) at (c .before .before .put .ensures)) ∙ l .inv .3,
+    )
 
 same-length : tie.Need-same-length Inv-loop μ-loop
 same-length c = c .before .loop .inv .1
@@ -75,10 +87,12 @@ put-pairs-spec =
     loop-holds
     shared-slice-read-to
     slice-write-to
-    add-write-i32
-    mul-write-i32
-    shared-slice-copy-out-write-i32
-    write-i32-requires
+    add-put
+    mul-bits
+    shared-slice-copy-out-bits
+    bits-requires
+    cast-put
+    put-requires
     add-p
     add-i
     loop-less

@@ -1,32 +1,30 @@
--- `time_log::put_part` meets its contract: the part's width says what is written. Assumes nothing.
-use mathlib.Core.Path.{_≡_, sym, _∙_}
-use Prim.Native.Nat.{_<_}
+-- `time_log::put_part` meets its contract: the mark says whether anything is written. Assumes nothing.
+use mathlib.Core.Path.{_≡_, sym, ap, _∙_}
+use Prim.Native.Nat.{ℕ}
 use native.Mathlib.Omega.{arith}
+use borrow.Author.Needs.{needs}
+use lib.Seq.{sets}
 use Rattle.wire.specs.Bytes.{bytesOf}
 use Rattle.time_log.specs.Layout.{width, partWidth, placeOf}
-use Rattle.time_log.proofs.Parts.{part-narrow, part-full}
-use Rattle.time_log.proofs.Laying.{number-laid, one-laid}
-use borrow.Author.Needs.{needs}
+use Rattle.time_log.proofs.Parts.{unmarked, marked, part-there}
 use Rattle.time_log.proofs.put_part.Statement.{statement}
 use Rattle.time_log.proofs.put_part.Tie as tie
 
-place-requires : tie.Need-place-requires
-place-requires c κs = search needs
+cast-if1 : tie.Need-cast-if1
+cast-if1 c = search needs
+
+shr-if1 : tie.Need-shr-if1
+shr-if1 c = search needs
 
 returns : tie.Need-returns
 unfolding bytesOf
-returns c = rw (sym (c .before .before .place .ensures .1) ∙ c .if1 .taken)
+returns c = rw (unmarked (c .before .before .args .layout) (c .before .before .args .k) (c .if1 .taken))
 
-cast-to : tie.Need-cast-to
-cast-to c =
-    let a = c .before .before .before .before .before .before .args in
-    let e : partWidth (a .layout) (a .k) ≡ 1 = sym (c .before .before .before .before .place .ensures .1) ∙ c .if2 .taken in
-    let w : width (a .k) ≡ 1 = sym (part-full (a .layout) (a .k) (λ z. absurd (omega (arith, e, z)))) ∙ e in
-    let h : a .x < 256 = rw w at (c .before .before .before .before .before .before .pre .1) in
-    omega (arith, h)
-
-slice-write-to : tie.Need-slice-write-to
-slice-write-to c = search needs
+put-requires : tie.Need-put-requires
+put-requires c κs =
+    let a = c .before .before .before .args in
+    let e : partWidth (a .layout) (a .k) ≡ width (a .k) = marked (a .layout) (a .k) (c .before .if1 .left) in
+    omega (arith, e, part-there (a .layout) (a .k) (c .before .before .before .pre .0), c .before .before .before .pre .1, c .before .before .before .pre .2, c .before .before .before .pre .3)
 
 same-length : tie.Need-same-length
 same-length c = search needs
@@ -34,57 +32,16 @@ same-length c = search needs
 returns-2 : tie.Need-returns-2
 returns-2 c =
     let a = c .before .before .before .before .before .before .args in
-    let e : partWidth (a .layout) (a .k) ≡ 1 = sym (c .before .before .before .before .place .ensures .1) ∙ c .if2 .taken in
-    let w : width (a .k) ≡ 1 = sym (part-full (a .layout) (a .k) (λ z. absurd (omega (arith, e, z)))) ∙ e in
-    let h : a .x < 256 = rw w at (c .before .before .before .before .before .before .pre .1) in
-    rw (c .before .before .before .before .place .ensures .0, e) (one-laid (a .to .now) (placeOf (a .layout) (a .k)) (a .x) h)
-
-cast-write-u16 : tie.Need-cast-write-u16
-cast-write-u16 c =
-    let a = c .before .before .before .before .before .before .before .before .before .args in
-    let e : partWidth (a .layout) (a .k) ≡ 2 = sym (c .before .before .before .before .before .before .before .place .ensures .1) ∙ c .before .if3 .taken in
-    let w : width (a .k) ≡ 2 = sym (part-full (a .layout) (a .k) (λ z. absurd (omega (arith, e, z)))) ∙ e in
-    let h : a .x < 65536 = rw w at (c .before .before .before .before .before .before .before .before .before .pre .1) in
-    omega (arith, h)
-
-write-u16-requires : tie.Need-write-u16-requires
-write-u16-requires c κs = search needs
-
-same-length-2 : tie.Need-same-length-2
-same-length-2 c = search needs
-
-returns-3 : tie.Need-returns-3
-returns-3 c =
-    let a = c .before .before .before .before .before .before .before .before .before .before .before .before .args in
-    let e : partWidth (a .layout) (a .k) ≡ 2 = sym (c .before .before .before .before .before .before .before .before .before .before .place .ensures .1) ∙ c .before .before .before .before .if3 .taken in
-    (rw (c .before .before .before .before .before .before .before .before .before .before .place .ensures .0) at (c .before .before .write-u16 .ensures .1)) ∙ rw e (number-laid (a .to .now) (placeOf (a .layout) (a .k)) 2 (a .x) (rw e at (c .before .before .before .before .before .before .before .before .before .before .before .before .pre .2)))
-
-write-u32-requires : tie.Need-write-u32-requires
-write-u32-requires c κs = search needs
-
-same-length-3 : tie.Need-same-length-3
-same-length-3 c = search needs
-
-returns-4 : tie.Need-returns-4
-returns-4 c =
-    let a = c .before .before .before .before .before .before .before .before .before .before .before .before .args in
-    let e : partWidth (a .layout) (a .k) ≡ 4 = part-narrow (a .layout) (a .k) .1 (omega (arith, c .before .before .before .before .before .before .before .before .before .before .place .ensures .1, c .before .before .before .before .before .before .before .before .if1 .left, c .before .before .before .before .before .before .if2 .left, c .before .before .before .before .if3 .left)) in
-    (rw (c .before .before .before .before .before .before .before .before .before .before .place .ensures .0) at (c .before .before .write-u32 .ensures .1)) ∙ rw e (number-laid (a .to .now) (placeOf (a .layout) (a .k)) 4 (a .x) (rw e at (c .before .before .before .before .before .before .before .before .before .before .before .before .pre .2)))
+    let e : partWidth (a .layout) (a .k) ≡ width (a .k) = marked (a .layout) (a .k) (c .before .before .before .before .if1 .left) in
+    c .before .before .put .ensures ∙ ap (λ (n : ℕ). sets (a .to .now) n (bytesOf (a .w) (a .x))) (c .before .before .before .before .before .before .pre .1) ∙ ap (λ (n : ℕ). sets (a .to .now) (placeOf (a .layout) (a .k)) (bytesOf n (a .x))) (c .before .before .before .before .before .before .pre .2 ∙ sym e)
 
 pub put-part-spec : {M : Type 1} → statement M
 put-part-spec =
     tie.close
     (tie.spec
-    place-requires
+    cast-if1
+    shr-if1
     returns
-    cast-to
-    slice-write-to
+    put-requires
     same-length
-    returns-2
-    cast-write-u16
-    write-u16-requires
-    same-length-2
-    returns-3
-    write-u32-requires
-    same-length-3
-    returns-4)
+    returns-2)

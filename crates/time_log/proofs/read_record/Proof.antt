@@ -1,66 +1,105 @@
 -- `time_log::read_record` meets its contract: each return is a case of the definition. Assumes nothing.
 use mathlib.Core.Path.{sym, _∙_}
+use Prim.Native.Nat.{_+_, _*_, _≤_}
 use native.Mathlib.Omega.{arith}
+use borrow.Author.Needs.{needs}
+use lib.ListN.{length, getD}
 use Rattle.time_log.specs.Layout.{recordLength}
 use Rattle.time_log.proofs.Parts.{place-small}
+use Rattle.time_log.proofs.Prefix.{granted}
+use Rattle.time_log.proofs.Refusals.{not-a-layout}
 use Rattle.time_log.proofs.Answers.{neither, judged, lists-short, lists-long, after-refusal, after-success}
-use borrow.Author.Needs.{needs}
 use Rattle.time_log.proofs.read_record.Statement.{statement}
 use Rattle.time_log.proofs.read_record.Tie as tie
-
-refusal-requires : tie.Need-refusal-requires
-refusal-requires c κs = search needs
 
 refused-requires : tie.Need-refused-requires
 refused-requires c κs = search needs
 
 returns : tie.Need-returns
 returns c =
-    let a = c .before .before .before .before .before .args in
-    let h = after-refusal (a .layout) (a .logged) (a .bytes .now) (a .ordinals .now) (a .values .now) (c .before .before .refusal .result) (judged (a .layout) (a .logged) (a .bytes .now) (a .ordinals .now) (a .values .now) (c .before .before .refusal .result) (c .before .before .refusal .ensures) (c .before .if1 .taken)) (c .before .if1 .taken) in
+    let a = c .before .before .before .before .args in
+    let h = after-refusal (a .layout) (a .logged) (a .bytes .now) (a .ordinals .now) (a .values .now) 47 (judged (a .layout) (a .logged) (a .bytes .now) (a .ordinals .now) (a .values .now) 47 (not-a-layout (a .layout) (a .logged) (a .bytes .now) (c .before .if1 .taken)) (λ e. absurd (omega (arith, e)))) (λ e. absurd (omega (arith, e))) in
     (c .refused .ensures ∙ h .0, h .1, h .2)
 
-place-requires : tie.Need-place-requires
-place-requires c κs = search needs
+places-of-requires : tie.Need-places-of-requires
+places-of-requires c κs = search needs
 
-read-u8-requires : tie.Need-read-u8-requires
-read-u8-requires c κs = search needs
-
-cast-n : tie.Need-cast-n
-cast-n c = search needs
+refusal-requires : tie.Need-refusal-requires
+refusal-requires c κs = (c .before .if1 .left, c .places-of .ensures)
 
 refused-requires-2 : tie.Need-refused-requires-2
 refused-requires-2 c κs = search needs
 
 returns-2 : tie.Need-returns-2
 returns-2 c =
-    let a = c .before .before .before .before .before .before .before .before .args in
-    let h = after-refusal (a .layout) (a .logged) (a .bytes .now) (a .ordinals .now) (a .values .now) 46 (lists-short (a .layout) (a .logged) (a .bytes .now) (a .ordinals .now) (a .values .now) (sym (c .before .before .before .before .before .refusal .ensures) ∙ c .before .before .before .before .if1 .left) (rw (c .before .before .read-u8 .ensures, c .before .before .before .place .ensures .0) at (c .before .if2 .taken))) (λ e. absurd (omega (arith, e))) in
+    let a = c .before .before .before .before .before .before .before .args in
+    let h = after-refusal (a .layout) (a .logged) (a .bytes .now) (a .ordinals .now) (a .values .now) (c .before .before .refusal .result) (judged (a .layout) (a .logged) (a .bytes .now) (a .ordinals .now) (a .values .now) (c .before .before .refusal .result) (c .before .before .refusal .ensures) (c .before .if2 .taken)) (c .before .if2 .taken) in
     (c .refused2 .ensures ∙ h .0, h .1, h .2)
 
+shared-slice-read-n : tie.Need-shared-slice-read-n
+shared-slice-read-n c =
+    let a = c .before .before .before .before .before .before .before .args in
+    let e = c .before .before .before .places-of .ensures .count in
+    let z = sym (c .before .before .refusal .ensures) ∙ c .before .if2 .left in
+    let g = granted (a .layout) (a .logged) (a .bytes .now) z in
+    omega (arith, g .counted, e)
+
+cast-n : tie.Need-cast-n
+cast-n c = omega (arith, c .shared-slice-known2 .given (c .before .before .before .places-of .result .count))
+
+refused-requires-3 : tie.Need-refused-requires-3
+refused-requires-3 c κs = search needs
+
+returns-3 : tie.Need-returns-3
+returns-3 c =
+    let a = c .before .before .before .before .before .before .before .before .before .args in
+    let h = after-refusal (a .layout) (a .logged) (a .bytes .now) (a .ordinals .now) (a .values .now) 46 (lists-short (a .layout) (a .logged) (a .bytes .now) (a .ordinals .now) (a .values .now) (sym (c .before .before .before .before .refusal .ensures) ∙ c .before .before .before .if2 .left) (rw (c .before .before .before .before .before .places-of .ensures .count) at (c .before .if3 .taken))) (λ e. absurd (omega (arith, e))) in
+    (c .refused3 .ensures ∙ h .0, h .1, h .2)
+
 add-fill-ordinals : tie.Need-add-fill-ordinals
-add-fill-ordinals c = omega (arith, place-small (c .before .before .before .before .before .before .before .args .layout) 9, c .before .before .place .ensures .0)
+add-fill-ordinals c = omega (arith, place-small (c .before .before .before .before .before .before .before .before .args .layout) 9, c .before .before .before .before .places-of .ensures .count, c .before .shared-slice-known2 .given (c .before .before .before .before .places-of .result .count))
 
 fill-ordinals-requires : tie.Need-fill-ordinals-requires
-fill-ordinals-requires c κs = (neither _ _ _ (c .before .if2 .left) .0, omega (arith, place-small (c .before .before .before .before .before .before .before .before .args .layout) 9, c .before .before .before .place .ensures .0))
+unfolding recordLength
+fill-ordinals-requires c κs =
+    let a = c .before .before .before .before .before .before .before .before .before .args in
+    let e = c .before .before .before .before .before .places-of .ensures .count in
+    let z = sym (c .before .before .before .before .refusal .ensures) ∙ c .before .before .before .if2 .left in
+    let g = granted (a .layout) (a .logged) (a .bytes .now) z in
+    let b = c .before .before .shared-slice-known2 .given (c .before .before .before .before .before .places-of .result .count) in
+    let w : c .before .before .before .before .before .places-of .result .count + 1 + 5 * getD (a .bytes .now) (c .before .before .before .before .before .places-of .result .count) 0 ≤ length (a .bytes .now) = rw e (g .whole) in
+    (neither _ _ _ (c .before .if3 .left) .0, omega (arith, w))
 
 add-fill-values : tie.Need-add-fill-values
-add-fill-values c = omega (arith, place-small (c .before .before .before .before .before .before .before .before .before .before .before .args .layout) 9, c .before .before .before .before .before .before .place .ensures .0)
+add-fill-values c = omega (arith, place-small (c .before .before .before .before .before .before .before .before .before .before .before .before .args .layout) 9, c .before .before .before .before .before .before .before .before .places-of .ensures .count, c .before .before .before .before .before .shared-slice-known2 .given (c .before .before .before .before .before .before .before .before .places-of .result .count))
 
 fill-values-requires : tie.Need-fill-values-requires
-fill-values-requires c κs = (neither _ _ _ (c .before .before .before .before .before .if2 .left) .1, omega arith, omega (arith, place-small (c .before .before .before .before .before .before .before .before .before .before .before .before .args .layout) 9, c .before .before .before .before .before .before .before .place .ensures .0))
+unfolding recordLength
+fill-values-requires c κs =
+    let a = c .before .before .before .before .before .before .before .before .before .before .before .before .before .args in
+    let e = c .before .before .before .before .before .before .before .before .before .places-of .ensures .count in
+    let z = sym (c .before .before .before .before .before .before .before .before .refusal .ensures) ∙ c .before .before .before .before .before .before .before .if2 .left in
+    let g = granted (a .layout) (a .logged) (a .bytes .now) z in
+    let b = c .before .before .before .before .before .before .shared-slice-known2 .given (c .before .before .before .before .before .before .before .before .before .places-of .result .count) in
+    let w : c .before .before .before .before .before .before .before .before .before .places-of .result .count + 1 + 5 * getD (a .bytes .now) (c .before .before .before .before .before .before .before .before .before .places-of .result .count) 0 ≤ length (a .bytes .now) = rw e (g .whole) in
+    (neither _ _ _ (c .before .before .before .before .before .if3 .left) .1, omega (arith, b), omega (arith, w))
 
 fields-of-requires : tie.Need-fields-of-requires
-fields-of-requires c κs = search needs
+fields-of-requires c κs =
+    let a = c .before .before .before .before .before .before .before .before .before .before .before .before .before .before .before .args in
+    let e = c .before .before .before .before .before .before .before .before .before .before .before .places-of .ensures .count in
+    let z = sym (c .before .before .before .before .before .before .before .before .before .before .refusal .ensures) ∙ c .before .before .before .before .before .before .before .before .before .if2 .left in
+    let g = granted (a .layout) (a .logged) (a .bytes .now) z in
+    (c .before .before .before .before .before .before .before .before .before .before .before .places-of .ensures, omega (arith, g .counted))
 
-add-t13 : tie.Need-add-t13
-add-t13 c = omega (arith, place-small (c .before .before .before .before .before .before .before .before .before .before .before .before .before .before .before .args .layout) 9, c .before .before .before .before .before .before .before .before .before .before .place .ensures .0)
+add-t14 : tie.Need-add-t14
+add-t14 c = omega (arith, place-small (c .before .before .before .before .before .before .before .before .before .before .before .before .before .before .before .before .args .layout) 9, c .before .before .before .before .before .before .before .before .before .before .before .before .places-of .ensures .count, c .before .before .before .before .before .before .before .before .before .shared-slice-known2 .given (c .before .before .before .before .before .before .before .before .before .before .before .before .places-of .result .count))
 
-mul-t14 : tie.Need-mul-t14
-mul-t14 c = search needs
+mul-t15 : tie.Need-mul-t15
+mul-t15 c = omega (arith, place-small (c .before .before .before .before .before .before .before .before .before .before .before .before .before .before .before .before .args .layout) 9, c .before .before .before .before .before .before .before .before .before .before .before .before .places-of .ensures .count, c .before .before .before .before .before .before .before .before .before .shared-slice-known2 .given (c .before .before .before .before .before .before .before .before .before .before .before .before .places-of .result .count))
 
-add-t22 : tie.Need-add-t22
-add-t22 c = omega (arith, place-small (c .before .before .before .before .before .before .before .before .before .before .before .before .before .before .before .args .layout) 9, c .before .before .before .before .before .before .before .before .before .before .place .ensures .0)
+add-t23 : tie.Need-add-t23
+add-t23 c = omega (arith, place-small (c .before .before .before .before .before .before .before .before .before .before .before .before .before .before .before .before .args .layout) 9, c .before .before .before .before .before .before .before .before .before .before .before .before .places-of .ensures .count, c .before .before .before .before .before .before .before .before .before .shared-slice-known2 .given (c .before .before .before .before .before .before .before .before .before .before .before .before .places-of .result .count))
 
 same-length : tie.Need-same-length
 same-length c = search needs
@@ -68,33 +107,36 @@ same-length c = search needs
 same-length-2 : tie.Need-same-length-2
 same-length-2 c = search needs
 
-returns-3 : tie.Need-returns-3
+returns-4 : tie.Need-returns-4
 unfolding recordLength
-returns-3 c =
-    let a = c .before .before .before .before .before .before .before .before .before .before .before .before .before .before .before .args in
-    let h = after-success (a .layout) (a .logged) (a .bytes .now) (a .ordinals .now) (a .values .now) (lists-long (a .layout) (a .logged) (a .bytes .now) (a .ordinals .now) (a .values .now) (sym (c .before .before .before .before .before .before .before .before .before .before .before .before .refusal .ensures) ∙ c .before .before .before .before .before .before .before .before .before .before .before .if1 .left) (rw (c .before .before .before .before .before .before .before .before .before .read-u8 .ensures, c .before .before .before .before .before .before .before .before .before .before .place .ensures .0) at (c .before .before .before .before .before .before .before .before .if2 .left))) in
-    (rw (c .fields-of .ensures, c .before .before .before .before .before .before .before .before .before .read-u8 .ensures, c .before .before .before .before .before .before .before .before .before .before .place .ensures .0) (h .0), (rw (c .before .before .before .before .before .before .before .before .before .read-u8 .ensures, c .before .before .before .before .before .before .before .before .before .before .place .ensures .0) at (c .before .before .before .before .before .before .fill-ordinals .ensures)) ∙ h .1, (rw (c .before .before .before .before .before .before .before .before .before .read-u8 .ensures, c .before .before .before .before .before .before .before .before .before .before .place .ensures .0) at (c .before .before .fill-values .ensures)) ∙ h .2)
+returns-4 c =
+    let a = c .before .before .before .before .before .before .before .before .before .before .before .before .before .before .before .before .args in
+    let e = c .before .before .before .before .before .before .before .before .before .before .before .before .places-of .ensures .count in
+    let h = after-success (a .layout) (a .logged) (a .bytes .now) (a .ordinals .now) (a .values .now) (lists-long (a .layout) (a .logged) (a .bytes .now) (a .ordinals .now) (a .values .now) (sym (c .before .before .before .before .before .before .before .before .before .before .before .refusal .ensures) ∙ c .before .before .before .before .before .before .before .before .before .before .if2 .left) (rw e at (c .before .before .before .before .before .before .before .before .if3 .left))) in
+    (rw (c .fields-of .ensures, e) (h .0), (rw e at (c .before .before .before .before .before .before .fill-ordinals .ensures)) ∙ h .1, (rw e at (c .before .before .fill-values .ensures)) ∙ h .2)
 
 pub read-record-spec : {M : Type 1} → statement M
 read-record-spec =
     tie.close
     (tie.spec
-    refusal-requires
     refused-requires
     returns
-    place-requires
-    read-u8-requires
-    cast-n
+    places-of-requires
+    refusal-requires
     refused-requires-2
     returns-2
+    shared-slice-read-n
+    cast-n
+    refused-requires-3
+    returns-3
     add-fill-ordinals
     fill-ordinals-requires
     add-fill-values
     fill-values-requires
     fields-of-requires
-    add-t13
-    mul-t14
-    add-t22
+    add-t14
+    mul-t15
+    add-t23
     same-length
     same-length-2
-    returns-3)
+    returns-4)
