@@ -1,7 +1,6 @@
 -- What belongs to no one function.
 pub mod Nine
 pub mod Parts
-pub mod Sizes
 pub mod Runs
 pub mod Numbers
 pub mod Answers

@@ -8,7 +8,7 @@ use lib.IntN.{natAbs}
 use lib.ListN.{length}
 use Rattle.wire.specs.Bytes.{numberAt}
 use Rattle.time_log.specs.Layout.{placeOf}
-use Rattle.time_log.specs.Contents.{partAt, signedAt, ordinalsAt}
+use Rattle.time_log.specs.Contents.{partAt, signedAt, fieldsAt, ordinalsAt}
 use Rattle.time_log.specs.Judging.{anyOver, fieldsRefusal, recordRefusal}
 use Rattle.time_log.specs.Within.{refusalBy}
 use Rattle.time_log.specs.Logs.{extentOf}
@@ -32,9 +32,14 @@ module _ (layout logged : ℕ) (s : List ℕ) (small : layout ≤ 511) where
   ends-inside g h =
       rw (le-ltb 511 layout small, lt-leb (length s) (placeOf layout 9) g, lt-ltb (length s) (extentOf layout s) h)
 
+  pub whole-record : placeOf layout 9 < length s → extentOf layout s ≤ length s → (x : ℕ)
+      → x ≡ fieldsRefusal (fieldsAt layout s) (anyOver logged (ordinalsAt layout s)) → x ≡ recordRefusal layout logged s
+  unfolding recordRefusal
+  whole-record g h x e =
+      rw (le-ltb 511 layout small, lt-leb (length s) (placeOf layout 9) g, le-ltb (length s) (extentOf layout s) h) e
+
   pub by-fields : placeOf layout 9 < length s → extentOf layout s ≤ length s → (x : ℕ)
       → x ≡ refusalBy (numberAt 4 s 0) (natAbs (signedAt layout s 0)) (natAbs (signedAt layout s 1)) (partAt layout s 3) (anyOver logged (ordinalsAt layout s))
       → x ≡ recordRefusal layout logged s
-  unfolding recordRefusal fieldsRefusal refusalBy
-  by-fields g h x e =
-      rw (le-ltb 511 layout small, lt-leb (length s) (placeOf layout 9) g, le-ltb (length s) (extentOf layout s) h) e
+  unfolding fieldsRefusal refusalBy
+  by-fields g h x e = whole-record g h x e

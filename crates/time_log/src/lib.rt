@@ -9,7 +9,7 @@ ghost use lib.Seq.{sets};
 ghost use Rattle.wire.specs.Bytes.{bytesOf, signedOf};
 ghost use Rattle.time_log.specs.Layout.{marksSet, width, partWidth, placeOf, recordLength};
 ghost use Rattle.time_log.specs.Contents.{partAt, fieldsAt, spaced, signedFrom};
-ghost use Rattle.time_log.specs.Judging.{knownStatus, anyOver, recordRefusal};
+ghost use Rattle.time_log.specs.Judging.{knownStatus, anyOver, fieldsRefusal, recordRefusal};
 ghost use Rattle.time_log.specs.Within.{Placed, refusalBy};
 ghost use Rattle.time_log.specs.Reading.{refusedBy, readOf, ordinalsAfter, valuesAfter};
 ghost use Rattle.time_log.specs.Logs.{logOf};
@@ -135,15 +135,6 @@ fn fields_of(bytes: &[u8], layout: u16, places: Places) -> Fields
     }
 }
 
-fn magnitude(z: i32) -> u32
-    ensures { λ r. ⌜ r ≡ natAbs z ⌝ }
-{
-    if z < 0 {
-        return (-1 - z) as u32 + 1;
-    }
-    z as u32
-}
-
 fn known_status(status: u8) -> bool
     ensures { λ r. ⌜ r ≡ knownStatus status ⌝ }
 {
@@ -160,25 +151,42 @@ fn size_of(x: u32) -> u32
     4294967295 - x + 1
 }
 
-// Whether one of n ordinals, five bytes apart, is not below the count of log values. All are looked at, which is faster than to
-// stop at the first; no byte reaches a count above 255.
+// Whether one of n ordinals, five bytes apart, is not below a limit.
+fn last_over(s: &[u8], at: usize, n: usize, limit: u8) -> bool
+    requires { ⌜ at + 5 * n ≤ length (now s) ⌝ }
+    ensures { λ r. ⌜ r ≡ anyOver limit (spaced 5 n (now (s .entry)) at) ⌝ }
+{
+    let mut p = at;
+    let mut left = n;
+    while 0 < left {
+        if limit <= s[p] {
+            return true;
+        }
+        p += 5;
+        left -= 1;
+    }
+    false
+}
+
+// The same for the count of log values as the limit, which no byte reaches from 256 on. One test for four ordinals halves the time.
 fn any_over(s: &[u8], at: usize, n: usize, logged: usize) -> bool
-    requires { ⌜ (at + 5 * n ≤ length (now s)) × ((i : ℕ) → getD (now s) i 0 < 256) ⌝ }
+    requires { ⌜ at + 5 * n ≤ length (now s) ⌝ }
     ensures { λ r. ⌜ r ≡ anyOver logged (spaced 5 n (now (s .entry)) at) ⌝ }
 {
     if 255 < logged {
         return false;
     }
     let limit = logged as u8;
-    let mut over = false;
     let mut p = at;
     let mut left = n;
-    while 0 < left {
-        over = over | (limit <= s[p]);
-        p += 5;
-        left -= 1;
+    while 4 <= left {
+        if (limit <= s[p]) | ((limit <= s[p + 5]) | ((limit <= s[p + 10]) | (limit <= s[p + 15]))) {
+            return true;
+        }
+        p += 20;
+        left -= 4;
     }
-    over
+    last_over(s, p, left, limit)
 }
 
 fn fields_refusal(time: u32, north: u32, east: u32, status: u8, over: bool) -> u32
@@ -202,6 +210,15 @@ fn fields_refusal(time: u32, north: u32, east: u32, status: u8, over: bool) -> u
     0
 }
 
+fn judged(fields: Fields, over: bool) -> u32
+    ensures { λ r. ⌜ r ≡ fieldsRefusal fields over ⌝ }
+{
+    let north = size_of(wire::bits(fields.north));
+    let east = size_of(wire::bits(fields.east));
+    fields_refusal(fields.time, north, east, fields.status, over)
+}
+
+// Judges a record of a log, of whose fields no more is read than is judged.
 fn refusal(bytes: &[u8], layout: u16, places: Places, logged: usize) -> u32
     requires { ⌜ (layout ≤ 511) × Placed layout places ⌝ }
     ensures { λ r. ⌜ r ≡ recordRefusal layout logged (now (bytes .entry)) ⌝ }
@@ -295,21 +312,29 @@ pub fn read_record(
         return refused(47);
     }
     let places = places_of(layout);
-    let number = refusal(bytes, layout, places, logged);
+    let at = places.count;
+    if bytes.len() <= at {
+        return refused(40);
+    }
+    let n = bytes[at] as usize;
+    let length = at + 1 + 5 * n;
+    if bytes.len() < length {
+        return refused(40);
+    }
+    let fields = fields_of(bytes, layout, places);
+    let over = any_over(bytes, at + 1, n, logged);
+    let number = judged(fields, over);
     if number != 0 {
         return refused(number);
     }
-    let at = places.count;
-    let n = bytes[at] as usize;
     if (ordinals.len() < n) | (values.len() < n) {
         return refused(46);
     }
     fill_ordinals(bytes, at + 1, ordinals, n);
     fill_values(bytes, at + 2, values, n);
-    let fields = fields_of(bytes, layout, places);
     Record {
         number: 0,
-        length: at + 1 + 5 * n,
+        length,
         count: n,
         fields,
     }
@@ -512,10 +537,8 @@ pub fn write_record(
         };
     }
     let written = kept(layout, fields);
-    let north = magnitude(written.north);
-    let east = magnitude(written.east);
     let over = any_of_list_over(ordinals, count, logged);
-    let number = fields_refusal(written.time, north, east, written.status, over);
+    let number = judged(written, over);
     if number != 0 {
         return Written { number, length: 0 };
     }

@@ -62,7 +62,7 @@ add-any-over : tie.Need-add-any-over
 add-any-over c = omega (arith, c .before .before .before .before .before .before .before .before .if1 .left)
 
 any-over-requires : tie.Need-any-over-requires
-any-over-requires c κs = (omega (arith, c .before .before .before .before .before .before .if2 .left), λ i. omega (arith, c .before .before .before .before .before .before .before .shared-slice-known2 .given i))
+any-over-requires c κs = omega (arith, c .before .before .before .before .before .before .if2 .left)
 
 fields-refusal-requires : tie.Need-fields-refusal-requires
 fields-refusal-requires c κs = search needs
