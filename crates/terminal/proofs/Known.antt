@@ -3,8 +3,8 @@
 use Prim.Native.Nat.{ℕ}
 use mathlib.Core.Bool.{Bool, true, false}
 use mathlib.Core.List.{List}
-use mathlib.Core.Path.{_≡_, refl}
-use Rattle.session.specs.Calls.{impossible, activateOf, isChecked, keptAfter, activatedRecords}
+use mathlib.Core.Path.{_≡_, refl, sym, ap}
+use Rattle.session.specs.Calls.{choose, impossible, activateOf, isChecked, keptAfter, activatedRecords}
 use Rattle.session.specs.declared.Session.{Session}
 use Rattle.session.specs.declared.Stage.the-variants.{Idle}
 use Rattle.working_table.specs.declared.Record.{Record}
@@ -38,19 +38,27 @@ module _ (v : ClientSession) where
   outcome-in = outcome-by (isKnown v) refl
 
   -- ---- the kept area
+  kept-left : isKnown v ≡ false → (after before : List ℕ) → left v after before ≡ before
+  unfolding left
+  kept-left e after before = ap (λ (b : Bool). choose b after before) e
+
   kept-by : (b : Bool) → isKnown v ≡ b → (staging kept : List ℕ) (room : ℕ) → keptAfter (sessionIn v) staging kept room ≡ left v (keptAfter (valueOf v) staging kept room) kept
   unfolding left keptAfter
   kept-by true e staging kept room = rw (when-known e, e)
-  kept-by false e staging kept room = rw (when-unknown e, e, unchecked)
+  kept-by false e staging kept room = rw (when-unknown e, unchecked) (sym (kept-left e (keptAfter (valueOf v) staging kept room) kept))
 
   pub kept-in : (staging kept : List ℕ) (room : ℕ) → keptAfter (sessionIn v) staging kept room ≡ left v (keptAfter (valueOf v) staging kept room) kept
   kept-in = kept-by (isKnown v) refl
 
   -- ---- the table
+  table-left : isKnown v ≡ false → (after before : List Record) → leftRecords v after before ≡ before
+  unfolding leftRecords
+  table-left e after before = ap (λ (b : Bool). choose b after before) e
+
   records-by : (b : Bool) → isKnown v ≡ b → (staging : List ℕ) (lk : ℕ) (table : List Record) → activatedRecords (sessionIn v) staging lk table ≡ leftRecords v (activatedRecords (valueOf v) staging lk table) table
   unfolding leftRecords activatedRecords
   records-by true e staging lk table = rw (when-known e, e)
-  records-by false e staging lk table = rw (when-unknown e, e, unchecked)
+  records-by false e staging lk table = rw (when-unknown e, unchecked) (sym (table-left e (activatedRecords (valueOf v) staging lk table) table))
 
   pub records-in : (staging : List ℕ) (lk : ℕ) (table : List Record) → activatedRecords (sessionIn v) staging lk table ≡ leftRecords v (activatedRecords (valueOf v) staging lk table) table
   records-in = records-by (isKnown v) refl
