@@ -1,27 +1,22 @@
 -- Widths and places of the optional fields. Assumes nothing.
-use mathlib.Core.Path.{_≡_, refl, _∙_}
+use mathlib.Core.Path.{_≡_, refl}
 use mathlib.Core.Logic.{_⊎_, inl, inr}
 use Prim.Native.Nat.{ℕ, zero, suc, _+_, _*_, _-_, _≤_, _<_}
 use native.Mathlib.Nat.{mod-lt, zero-lt-suc, zero-add, zero-mul, one-mul}
 use native.Mathlib.Omega.{arith}
 use Rattle.time_log.specs.Layout.{mark, width, partWidth, placeOf}
 
--- a width is 0, 1, 2 or 4
-pub record Narrow (w : ℕ) : Type 0 where
-  pub small : w ≤ 4
-  pub even : 2 < w → w ≡ 4
-
-pub width-narrow : (k : ℕ) → Narrow (width k)
-width-narrow zero = record { small = omega arith; even = λ h. refl }
-width-narrow (suc zero) = record { small = omega arith; even = λ h. refl }
-width-narrow (suc (suc zero)) = record { small = omega arith; even = λ h. refl }
-width-narrow (suc (suc (suc zero))) = record { small = omega arith; even = λ h. absurd (omega (arith, h)) }
-width-narrow (suc (suc (suc (suc zero)))) = record { small = omega arith; even = λ h. absurd (omega (arith, h)) }
-width-narrow (suc (suc (suc (suc (suc zero))))) = record { small = omega arith; even = λ h. absurd (omega (arith, h)) }
-width-narrow (suc (suc (suc (suc (suc (suc zero)))))) = record { small = omega arith; even = λ h. absurd (omega (arith, h)) }
-width-narrow (suc (suc (suc (suc (suc (suc (suc zero))))))) = record { small = omega arith; even = λ h. refl }
-width-narrow (suc (suc (suc (suc (suc (suc (suc (suc zero)))))))) = record { small = omega arith; even = λ h. absurd (omega (arith, h)) }
-width-narrow (suc (suc (suc (suc (suc (suc (suc (suc (suc k))))))))) = record { small = omega arith; even = λ h. absurd (omega (arith, h)) }
+pub width-small : (k : ℕ) → width k ≤ 4
+width-small zero = omega arith
+width-small (suc zero) = omega arith
+width-small (suc (suc zero)) = omega arith
+width-small (suc (suc (suc zero))) = omega arith
+width-small (suc (suc (suc (suc zero)))) = omega arith
+width-small (suc (suc (suc (suc (suc zero))))) = omega arith
+width-small (suc (suc (suc (suc (suc (suc zero)))))) = omega arith
+width-small (suc (suc (suc (suc (suc (suc (suc zero))))))) = omega arith
+width-small (suc (suc (suc (suc (suc (suc (suc (suc zero)))))))) = omega arith
+width-small (suc (suc (suc (suc (suc (suc (suc (suc (suc k))))))))) = omega arith
 
 -- a bit times a width is nothing or the width
 pub bit-times : (b w : ℕ) → b < 2 → (b * w ≡ 0) ⊎ (b * w ≡ w)
@@ -33,17 +28,17 @@ pub part-is : (layout k : ℕ) → (partWidth layout k ≡ 0) ⊎ (partWidth lay
 unfolding partWidth
 part-is layout k = bit-times (mark layout k) (width k) (mod-lt _ (zero-lt-suc 1))
 
-pub part-narrow : (layout k : ℕ) → (partWidth layout k ≤ width k) × (2 < partWidth layout k → partWidth layout k ≡ 4)
+part-narrow : (layout k : ℕ) → partWidth layout k ≤ width k
 part-narrow layout k = go (part-is layout k)
   where
-    go : (partWidth layout k ≡ 0) ⊎ (partWidth layout k ≡ width k) → (partWidth layout k ≤ width k) × (2 < partWidth layout k → partWidth layout k ≡ 4)
-    go (inl e) = (omega (arith, e), λ h. absurd (omega (arith, e, h)))
-    go (inr e) = (omega (arith, e), λ h. e ∙ width-narrow k .even (omega (arith, e, h)))
+    go : (partWidth layout k ≡ 0) ⊎ (partWidth layout k ≡ width k) → partWidth layout k ≤ width k
+    go (inl e) = omega (arith, e)
+    go (inr e) = omega (arith, e)
 
 pub place-small : (layout k : ℕ) → placeOf layout k ≤ 6 + 4 * k
 unfolding placeOf
 place-small layout zero = omega arith
-place-small layout (suc k) = omega (arith, place-small layout k, part-narrow layout k .0, width-narrow k .small)
+place-small layout (suc k) = omega (arith, place-small layout k, part-narrow layout k, width-small k)
 
 pub first-place : (layout : ℕ) → 6 ≡ placeOf layout 0
 unfolding placeOf

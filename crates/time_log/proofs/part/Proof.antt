@@ -6,7 +6,7 @@ use native.Mathlib.Omega.{arith}
 use borrow.Author.Needs.{needs}
 use Rattle.wire.proofs.Width.{narrower, positive}
 use Rattle.time_log.specs.Layout.{width, partWidth, placeOf}
-use Rattle.time_log.proofs.Parts.{width-narrow, unmarked, marked, part-there}
+use Rattle.time_log.proofs.Parts.{width-small, unmarked, marked, part-there}
 use Rattle.time_log.proofs.Numbers.{read-part, absent}
 use Rattle.time_log.proofs.part.Statement.{statement}
 use Rattle.time_log.proofs.part.Tie as tie
@@ -26,12 +26,12 @@ number-requires : tie.Need-number-requires
 number-requires c κs =
     let a = c .before .before .args in
     let e : partWidth (a .layout) (a .k) ≡ width (a .k) = marked (a .layout) (a .k) (c .if1 .left) in
-    (omega (arith, width-narrow (a .k) .small, c .before .before .pre .2), omega (arith, e, part-there (a .layout) (a .k) (c .before .before .pre .0), c .before .before .pre .1, c .before .before .pre .2, c .before .before .pre .3))
+    (omega (arith, width-small (a .k), c .before .before .pre .2), omega (arith, e, part-there (a .layout) (a .k) (c .before .before .pre .0), c .before .before .pre .1, c .before .before .pre .2, c .before .before .pre .3))
 
 cast-result : tie.Need-cast-result
 cast-result c =
     let a = c .before .before .before .args in
-    record { fits = lt-of-lt-of-le (c .number .ensures .1) (narrower (a .w) 4 (omega (arith, width-narrow (a .k) .small, c .before .before .before .pre .2))) }
+    record { fits = lt-of-lt-of-le (c .number .ensures .1) (narrower (a .w) 4 (omega (arith, width-small (a .k), c .before .before .before .pre .2))) }
 
 returns-2 : tie.Need-returns-2
 returns-2 c =
