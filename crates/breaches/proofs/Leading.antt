@@ -1,7 +1,7 @@
 -- What a look at records in their order tells: by the links, the element numbers met so far, and parents further in front.
 -- Assumes nothing.
 use mathlib.Core.Path.{_≡_, refl, sym, ap, _∙_, subst}
-use mathlib.Core.Bool.{Bool, true, false, cond, not, _&&_, _||_}
+use mathlib.Core.Bool.{Bool, true, false, cond, not, _&&_, _||_, false≢true}
 use mathlib.Core.Logic.{_⊎_, ⊎-elim}
 use mathlib.Core.List.{List, [], _∷_, _++_}
 use Prim.Native.Nat.{ℕ, zero, suc, _+_, _-_, _*_, _/_, _%_, _<_, _≤_}
@@ -22,7 +22,7 @@ use Rattle.pool.specs.Reading.{Entry, width}
 use Rattle.naming.specs.Records.{startAt, idAt, kindAt}
 use Rattle.naming.specs.Naming.{firstOf, numberKey, named, kindOf, parentOf, climb, isData, tagOf}
 use Rattle.naming.specs.Lists.{entryIn, shown, kindIn, Blank}
-use Rattle.naming.specs.Links.{linkOf, Linked}
+use Rattle.naming.specs.Links.{linkOf, Linked, ownFits, Owned}
 use Rattle.naming.specs.Steps.{entered}
 use Rattle.naming.proofs.First.{first-none, to-first}
 use Rattle.naming.proofs.Shown.{shown-long, shown-kind}
@@ -54,6 +54,17 @@ none-left (x ∷ l) e = absurd (omega (arith, e))
 pub none-counted : {n : ℕ} {rows : List Row} {b b′ : List ℕ} {k : ℕ} → Puts n rows b 0 b′ k → k ≡ 0 → Faultless n rows
 none-counted {n} {rows} p e = none-left (inRows n rows) (omega (arith, p .emits .counted, e))
 
+-- an ID that a record may have is none that rule 1 forbids
+own-fits : (k x : ℕ) → ownFits k x ≡ true → badOwn k x ≡ false
+own-fits k x = go (eqb k 1) (eqb x 0) (eqb x 65535)
+  where
+    go : (a b c : Bool) → cond a b (not b && not c) ≡ true → cond a (not b) (b || c) ≡ false
+    go true true c e = refl
+    go true false c e = absurd (false≢true e)
+    go false true c e = absurd (false≢true e)
+    go false false true e = absurd (false≢true e)
+    go false false false e = refl
+
 -- ---- links
 
 module _ (table : List ℕ) (count : ℕ) where
@@ -73,16 +84,6 @@ module _ (table : List ℕ) (count : ℕ) where
         let t = link-right es (named es x) 5 (ap (λ (y : ℕ). y % 8) (sym l) ∙ k) (omega arith) (omega arith) in
         let some : eqb (named es x) 0 ≡ false = ne-eqb (named es x) 0 (λ (z : named es x ≡ 0). omega (arith, t .1)) in
         (λ m b. rw some (and-false (not (eqb x 65535))), (λ m b. rw (t .0) (and-false (not (eqb (named es x) 0))), tt))
-
-    -- a record whose ID leads to it is the first with that ID
-    pub own-first : (i x : ℕ) → i < count → x ≡ idAt (shown table count) i → getD links x 0 / 8 ≡ i → repeats (idAt (shown table count)) x i (length (shown table count)) ≡ false
-    unfolding repeats
-    own-first i x h e q =
-        let es = shown table count in
-        let r = firstOf (idAt es) x count in
-        let some : r ≡ 0 → ⊥ = λ (z : r ≡ 0). first-none (idAt es) x count z i h (sym e) in
-        let is : r ≡ suc i = link-number es r some ∙ ap suc (ap (λ (y : ℕ). y / 8) (sym (linked x)) ∙ q) in
-        rw (shown-long table count, eq-eqb r (suc i) is)
 
   pub none-presented : (x : ℕ) → x ≡ 65535 → AllClear (presentedRows (shown table count) x)
   unfolding named
@@ -146,11 +147,20 @@ module _ (p table : List ℕ) (count : ℕ) where
       go (no n) = before r (omega arith)
 
   -- rules 1 and 2, and then those of the kind
-  pub record-leads : (i : ℕ) → i < count
-      → AllClear (ownRows (badOwn (getD table (i * width + 2) 0) (getD table (i * width + 3) 0)) (repeats (idAt (shown table count)) (getD table (i * width + 3) 0) i (length (shown table count))))
+  -- rules 1 and 2 are kept by all
+  pub own-clear : Owned (shown table count) count → (i : ℕ) → i < count
+      → AllClear (ownRows (badOwn (kindAt (shown table count) i) (idAt (shown table count) i)) (repeats (idAt (shown table count)) (idAt (shown table count) i) i (length (shown table count))))
+  unfolding repeats
+  own-clear o i h =
+      let es = shown table count in
+      let w = o i h in
+      (λ m l. own-fits (kindAt es i) (idAt es i) (w .0), (λ m l. rw (shown-long table count, eq-eqb (firstOf (idAt es) (idAt es i) count) (suc i) (w .1)), tt))
+
+  pub record-leads : (i : ℕ) → i < count → Owned (shown table count) count
       → Faultless (i + 1) (kindRows p (shown table count) i (getD table (i * width + 2) 0)) → Faultless (i + 1) (recordRows p (shown table count) i)
-  record-leads i h own kind = rw (← kinds table count i h, ← ids table count i h)
-      (faultless-then (i + 1) (ownRows (badOwn (getD table (i * width + 2) 0) (getD table (i * width + 3) 0)) (repeats (idAt (shown table count)) (getD table (i * width + 3) 0) i (length (shown table count)))) (kindRows p (shown table count) i (getD table (i * width + 2) 0)) own kind)
+  record-leads i h own kind =
+      let es = shown table count in
+      faultless-then (i + 1) (ownRows (badOwn (kindAt es i) (idAt es i)) (repeats (idAt es) (idAt es i) i (length es))) (kindRows p es i (kindAt es i)) (own-clear own i h) (rw (← kinds table count i h) kind)
 
   pub leading-other : (numbers : List ℕ) (i : ℕ) → i < count → (getD table (i * width + 2) 0 ≡ 2 → ⊥) → Leading p table count numbers i → Leading p table count numbers (i + 1)
   leading-other numbers i h other w =

@@ -129,7 +129,7 @@ fn is_clean_element(
     is_clean_list(p, table, count, index, at, size, (i + 1) as u16, seen)
 }
 
-// What fails most cheaply comes first.
+// Whether record i is seen to have no fault, if a look is wanted. What fails most cheaply comes first.
 pub(crate) fn is_clean(
     p: &[u8],
     table: &[u16],
@@ -139,10 +139,14 @@ pub(crate) fn is_clean(
     ups: &[u16],
     seen: &mut [u16],
     i: usize,
+    looks: bool,
 ) -> bool
     requires { ⌜ Prepared (now p) (now table) count (now index) (now numbers) (now ups) × (1024 ≤ length (now seen)) × (i < count) ⌝ }
     ensures { λ r. ⌜ (r ≡ true → AllClear (recordRows (now (p .entry)) (shown (now (table .entry)) count) i)) ⌝ }
 {
+    if !looks {
+        return false;
+    }
     let at = table[i * 4];
     let kind = table[i * 4 + 2];
     let id = table[i * 4 + 3];

@@ -14,12 +14,12 @@ ghost use lib.ListN.{length, getD};
 ghost use Rattle.wire.specs.Bytes.{numberAt};
 ghost use Rattle.records.specs.Fields.{deviceOf, elementOf, entryOf, processDataOf, propertyOf, presentationOf};
 ghost use Rattle.pool.specs.Reading.{Entry, width};
-ghost use Rattle.naming.specs.Records.{startAt, idAt, kindAt};
+ghost use Rattle.naming.specs.Records.{startAt, kindAt};
 ghost use Rattle.naming.specs.Naming.{firstOf, kindOf, tagOf};
 ghost use Rattle.naming.specs.Lists.{shown, Blank};
-ghost use Rattle.naming.specs.Links.{linkOf, Linked};
+ghost use Rattle.naming.specs.Links.{linkOf, Linked, Owned};
 ghost use Rattle.naming.specs.Steps.{entered};
-ghost use Rattle.rules.specs.Table.{repeats, badOwn, isParent, entryNamed, ownRows, fieldRows, elementRows, deviceRows, presentedRows, dataRows, propertyRows, valueRows, kindRows, recordRows};
+ghost use Rattle.rules.specs.Table.{isParent, entryNamed, fieldRows, elementRows, deviceRows, presentedRows, dataRows, propertyRows, valueRows, kindRows, recordRows};
 ghost use Rattle.breaches.specs.Clean.{AllClear, Apart};
 ghost use Rattle.breaches.specs.Leading.{Faultless, Leading, Led, placeIn};
 ghost use Rattle.breaches.specs.Lists.{namedIn};
@@ -240,18 +240,7 @@ fn is_clear_other(
     true
 }
 
-// Rules 1 and 2.
-fn is_clear_own(table: &[u16], count: usize, links: &[u16], i: usize, kind: u16, id: u16) -> bool
-    requires { ⌜ Linked (shown (now table) count) count (now links) × (i < count) × (id ≡ idAt (shown (now table) count) i) ⌝ }
-    ensures { λ r. ⌜ (r ≡ true → AllClear (ownRows (badOwn kind id) (repeats (idAt (shown (now (table .entry)) count)) id i (length (shown (now (table .entry)) count))))) ⌝ }
-{
-    if fields::is_bad_id(kind, id) {
-        return false;
-    }
-    record::number_at(links, id as usize) as usize / 8 == i
-}
-
-// Whether record i has no fault, where none before it has one.
+// Whether record i has no fault, where none before it has one and all keep rules 1 and 2.
 fn is_clear(
     p: &[u8],
     table: &[u16],
@@ -262,21 +251,18 @@ fn is_clear(
     seen: &mut [u16],
     i: usize,
 ) -> bool
-    requires { ⌜ (count * width ≤ length (now table)) × (count ≤ 8192) × (device ≡ firstOf (kindAt (shown (now table) count)) 1 count) × Linked (shown (now table) count) count (now links) × Leading (now p) (now table) count (now numbers) i × (1024 ≤ length (now seen)) × (i < count) ⌝ }
+    requires { ⌜ (count * width ≤ length (now table)) × (count ≤ 8192) × (device ≡ firstOf (kindAt (shown (now table) count)) 1 count) × Linked (shown (now table) count) count (now links) × Owned (shown (now table) count) count × Leading (now p) (now table) count (now numbers) i × (1024 ≤ length (now seen)) × (i < count) ⌝ }
     ensures { λ r. ⌜ (r ≡ true → Faultless (i + 1) (recordRows (now (p .entry)) (shown (now (table .entry)) count) i) × Leading (now (p .entry)) (now (table .entry)) count (now (numbers .exit)) (i + 1)) ⌝ }
 {
     let kind = table[i * 4 + 2];
-    let id = table[i * 4 + 3];
-    if !is_clear_own(table, count, links, i, kind, id) {
-        return false;
-    }
     if kind == 2 {
         return is_clear_element(p, table, count, links, numbers, seen, i);
     }
     is_clear_other(p, table, count, links, device, i, kind)
 }
 
-// How many records from the first on have no fault, as far as lists of these lengths tell.
+// How many records from the first on have no fault, as far as lists of these lengths tell. Rules 1 and 2 were settled with the
+// links.
 pub fn lead(
     p: &[u8],
     table: &[u16],
@@ -286,7 +272,7 @@ pub fn lead(
     numbers: &mut [u16],
     seen: &mut [u16],
 ) -> usize
-    requires { ⌜ (count * width ≤ length (now table)) × (count ≤ 8192) × (device ≡ firstOf (kindAt (shown (now table) count)) 1 count) × Linked (shown (now table) count) count (now links) × Blank (now numbers) × (1024 ≤ length (now seen)) ⌝ }
+    requires { ⌜ (count * width ≤ length (now table)) × (count ≤ 8192) × (device ≡ firstOf (kindAt (shown (now table) count)) 1 count) × Linked (shown (now table) count) count (now links) × Owned (shown (now table) count) count × Blank (now numbers) × (1024 ≤ length (now seen)) ⌝ }
     ensures { λ r. ⌜ Led (now (p .entry)) (shown (now (table .entry)) count) count r ⌝ }
 {
     let mut i: usize = 0;

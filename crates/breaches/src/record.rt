@@ -194,7 +194,7 @@ fn put_faults(
     own
 }
 
-// Every fault of record i.
+// Every fault of record i, after one look whether it has none, if that is wanted.
 pub fn put_record(
     p: &[u8],
     table: &[u16],
@@ -207,13 +207,14 @@ pub fn put_record(
     list: &mut [u16],
     seen: &mut [u16],
     i: usize,
+    looks: bool,
     faults: &mut [u16],
     n: usize,
 ) -> usize
     requires { ⌜ Prepared (now p) (now table) count (now index) (now numbers) (now ups) × Roomy (now p) (shown (now table) count) room × Lent room (now list) (now seen) × (device ≡ firstOf (kindAt (shown (now table) count)) 1 count) × (i < count) × (n < 2 ^ 37) ⌝ }
     ensures { λ r. ⌜ Puts (i + 1) (recordRows (now (p .entry)) (shown (now (table .entry)) count) i) (now (faults .entry)) n (now (faults .exit)) r × (r ≤ n + 98313) ⌝ }
 {
-    if clean::is_clean(p, table, count, index, numbers, ups, seen, i) {
+    if clean::is_clean(p, table, count, index, numbers, ups, seen, i, looks) {
         return n;
     }
     put_faults(

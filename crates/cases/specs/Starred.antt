@@ -10,7 +10,7 @@ use Rattle.pool.specs.Reading.{readOf}
 use Rattle.faults.specs.Faults.{Fault, fault}
 use Rattle.rules.specs.Table.{breachesOf}
 use Rattle.checker.specs.Checking.{checkOf}
-use Rattle.working_table.specs.Filling.{blank}
+use Rattle.working_table.specs.Table.{blank}
 use Rattle.book.specs.Book as Book
 use Rattle.book.specs.Book.{Said, said, saidOf, Call, offer, transfer, activate}
 use Rattle.messages.specs.Reading as messages

@@ -5,7 +5,7 @@ use mathlib.Core.Path.{_≡_}
 use mathlib.Core.List.{List, [], _∷_, _++_}
 use lib.ListN.{take, drop, replicate}
 use Rattle.working_table.specs.declared.Record.{Record}
-use Rattle.working_table.specs.Filling.{blank}
+use Rattle.working_table.specs.Table.{blank}
 use Rattle.faults.specs.Faults.{fault}
 use Rattle.book.specs.Book as Book
 use Rattle.book.specs.Book.{Said, said, bookOf, saidOf, Call, offer, transfer, activate, deactivate, delete, lost}

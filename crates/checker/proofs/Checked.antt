@@ -2,7 +2,7 @@
 use mathlib.Core.Path.{_≡_, refl, sym, ap, _∙_, subst}
 use mathlib.Core.Bool.{Bool, true, false}
 use mathlib.Core.List.{List, [], _∷_}
-use Prim.Native.Nat.{ℕ, zero, suc, _+_, _*_, _/_, _<_, _≤_}
+use Prim.Native.Nat.{ℕ, zero, suc, _+_, _*_, _<_, _≤_}
 use native.Mathlib.Omega.{arith}
 use native.Mathlib.Decide.{decLt}
 use borrow.Author.Tests.{leb-true, ne-eqb}
@@ -18,10 +18,10 @@ use Rattle.records.specs.declared.Mark.the-variants.{Of, Unknown}
 use Rattle.records.specs.declared.Extent.the-variants.{Ends, Cut}
 use Rattle.records.proofs.Range.{cut-ends, guarded, fields-end}
 use Rattle.pool.specs.Answer.{Answer, answer}
-use Rattle.pool.specs.Reading.{Entry, width, flat, records, scanOf, entriesIn, readOf, roomOf, tableAfter}
-use Rattle.pool.specs.Walk.{Listed}
+use Rattle.pool.specs.Reading.{Entry, width, flat, scanOf, entriesIn, readOf}
+use Rattle.pool.specs.Walk.{Reaches, Listed}
 use Rattle.pool.proofs.Steps.{Remaining, Next, next-of, none-left}
-use Rattle.pool.proofs.Judged.{Counted, read-counted, table-read}
+use Rattle.pool.proofs.Judged.{Counted, read-counted, reached}
 use Rattle.faults.specs.Faults.{written}
 use Rattle.faults.specs.Emission.{Emits}
 use Rattle.faults.proofs.Emission.{emits-written}
@@ -88,39 +88,35 @@ roomy p room n e i h k =
     let r : Remaining p 0 (entriesIn (scanOf p)) = record { turns = length p; enough = omega arith; reads = c .scanned } in
     omega (arith, left-fits p (entriesIn (scanOf p)) 0 r i h k, c .short)
 
--- ---- what the table then shows, and what is answered
+-- ---- what the rows then show, and what is answered
 
-pub table-shows : (p table : List ℕ) (n : ℕ) → answer 0 n ≡ readOf p (roomOf table) → shown (tableAfter p table) n ≡ entriesIn (scanOf p)
-table-shows p table n e =
-    let c : Counted p (roomOf table) n = read-counted p (roomOf table) n e in
-    subst (λ (k : ℕ). shown (tableAfter p table) k ≡ entriesIn (scanOf p)) (c .count)
-    (rw (table-read p table n e) (shown-flat (entriesIn (scanOf p)) table (omega (arith, c .count, c .fits))))
-
-table-holds : (p table : List ℕ) (n : ℕ) → answer 0 n ≡ readOf p (roomOf table) → (n * width ≤ length (tableAfter p table)) × (n ≤ 8192)
-table-holds p table n e =
-    let c : Counted p (roomOf table) n = read-counted p (roomOf table) n e in
-    (rw (table-read p table n e, length-sets table 0 (flat (entriesIn (scanOf p)))) (omega (arith, c .fits)), c .few)
-
-module _ (p table filled : List ℕ) (n : ℕ) (e : answer 0 n ≡ readOf p (roomOf table)) (l : Listed p table filled) where
-  f : filled ≡ tableAfter p table
+module _ (p : List ℕ) (room : ℕ) (rows filled : List ℕ) (n : ℕ) (e : answer 0 n ≡ readOf p room) (reach : Reaches rows p) (l : Listed p room rows filled) where
+  f : filled ≡ sets rows 0 (flat (entriesIn (scanOf p)))
   f = l (sym (ap (λ (a : Answer). a .number) e))
+
+  pub rows-show : shown filled n ≡ entriesIn (scanOf p)
+  rows-show =
+      let c : Counted p room n = read-counted p room n e in
+      subst (λ (k : ℕ). shown filled k ≡ entriesIn (scanOf p)) (c .count)
+      (rw f (shown-flat (entriesIn (scanOf p)) rows (omega (arith, c .count, reached p rows room n reach e))))
 
   pub may-count : (n * width ≤ length filled) × (n ≤ 8192) × Roomy p (shown filled n) 32768
   may-count =
-      let h = table-holds p table n e in
-      (rw f (h .0), h .1, rw (f, table-shows p table n e) (roomy p (roomOf table) n e))
+      let c : Counted p room n = read-counted p room n e in
+      let long : length filled ≡ length rows = ap length f ∙ length-sets rows 0 (flat (entriesIn (scanOf p))) in
+      (omega (arith, long, reached p rows room n reach e), c .few, rw rows-show (roomy p room n e))
 
   pub counted : (faults after : List ℕ) (k : ℕ) → Emits faults 0 (breachesIn p (shown filled n)) after k
-      → (answer 0 k ≡ checkOf p (roomOf table)) × (n ≡ countOf p (roomOf table)) × Listed p table filled × (after ≡ faultsAfter p (roomOf table) faults)
+      → (answer 0 k ≡ checkOf p room) × (n ≡ countOf p room) × Listed p room rows filled × (after ≡ faultsAfter p room faults)
   unfolding checkOf countOf faultsAfter breachesOf
   counted faults after k h =
-      let w = emits-written (rw (f, table-shows p table n e) at h) in
+      let w = emits-written (rw rows-show at h) in
       (rw (← e) (ap (answer 0) (w .1)), rw (← e), l, rw (← e) (w .0))
 
 -- a refusal of reading is one of checking
-pub passed-on : (p table filled faults : List ℕ) (number value : ℕ) → answer (suc number) value ≡ readOf p (roomOf table) → Listed p table filled
-    → (answer (suc number) value ≡ checkOf p (roomOf table)) × (0 ≡ countOf p (roomOf table)) × Listed p table filled × (faults ≡ faultsAfter p (roomOf table) faults)
+pub passed-on : (p : List ℕ) (room : ℕ) (rows filled faults : List ℕ) (number value : ℕ) → answer (suc number) value ≡ readOf p room → Listed p room rows filled
+    → (answer (suc number) value ≡ checkOf p room) × (0 ≡ countOf p room) × Listed p room rows filled × (faults ≡ faultsAfter p room faults)
 unfolding checkOf countOf faultsAfter
-passed-on p table filled faults number value e f =
+passed-on p room rows filled faults number value e l =
     let d : eqb (suc number) 0 ≡ false = ne-eqb (suc number) 0 (λ (z : suc number ≡ 0). omega arith) in
-    (rw (← e, d), rw (← e, d), f, rw (← e, d))
+    (rw (← e, d), rw (← e, d), l, rw (← e, d))

@@ -3,5 +3,7 @@ pub mod Looking
 pub mod Whole
 pub mod Lists
 pub mod Checked
-pub mod Rooms
+pub mod Counts
 pub mod Tries
+pub mod Tables
+pub mod Sizes

@@ -1,8 +1,11 @@
 -- The lists that a check works with, when they are new. Assumes nothing.
 use mathlib.Core.Path.{_≡_, refl}
-use Prim.Native.Nat.{ℕ, zero, suc, _<_, _≤_}
+use mathlib.Core.List.{List}
+use Prim.Native.Nat.{ℕ, zero, suc, _+_, _*_, _/_, _<_, _≤_}
 use native.Mathlib.Omega.{arith}
 use lib.ListN.{length, getD, replicate, length-replicate}
+use Rattle.pool.specs.Reading.{width}
+use Rattle.pool.specs.Walk.{Reaches}
 use Rattle.naming.specs.Lists.{Blank}
 use Rattle.breaches.specs.Lists.{Lent}
 
@@ -19,3 +22,7 @@ lent n m h l k =
 
 pub long : (n m : ℕ) → m ≤ n → m ≤ length {A = ℕ} (replicate n 0)
 long n m h = omega (arith, length-replicate {A = ℕ} n 0)
+
+-- a new list of so many numbers reaches for every record of a pool
+pub reaches : (n : ℕ) (p : List ℕ) → (length p ≤ 65535 → length p < n / width * 12 + 12) → Reaches (replicate n 0) p
+reaches n p h = rw (length-replicate {A = ℕ} n 0) h

@@ -1,3 +1,4 @@
 -- What the contracts of `checker` cite, in the order to read it.
 pub mod Checking
 pub mod Trying
+pub mod Tables

@@ -1,26 +1,16 @@
 // Checking a pool against the rule table: the full count of faults, and the first ones in a lent buffer.
 use pool::Outcome;
 
+mod counting;
 mod sound;
+mod table;
 
+pub use table::check;
 ghost use mathlib.Core.Path.{_≡_};
-ghost use mathlib.Core.Bool.{true, cond};
-ghost use Prim.Native.Nat.{ℕ, _+_, _*_, _≤_, _<_};
-ghost use lib.Dec.{eqb};
+ghost use Prim.Native.Nat.{_≤_};
 ghost use lib.ListN.{length};
-ghost use Rattle.records.specs.Fields.{elementOf};
-ghost use Rattle.pool.specs.Answer.{answerOf};
-ghost use Rattle.pool.specs.Reading.{width, scanOf, entriesIn, readOf, roomOf};
-ghost use Rattle.pool.specs.Walk.{Listed};
-ghost use Rattle.faults.specs.Emission.{Emits, Puts};
-ghost use Rattle.naming.specs.Records.{kindAt};
-ghost use Rattle.naming.specs.Naming.{firstOf, typeKey};
-ghost use Rattle.naming.specs.Lists.{shown, Blank, Roomy};
-ghost use Rattle.rules.specs.Table.{poolRows, breachesIn};
+ghost use Rattle.pool.specs.Walk.{Reaches, Listed};
 ghost use Rattle.checker.specs.Checking.{verdictOf, recordsIn, checkOf, countOf, faultsAfter};
-ghost use Rattle.breaches.specs.Lists.{Prepared, Lent};
-ghost use Rattle.breaches.specs.Leading.{Led};
-ghost use Rattle.checker.specs.Trying.{Completes, Told};
 
 // What checking answers: how many records the table now holds and the full count of faults, or why the pool cannot be read
 // and where. The refusals stand in the order of their numbers, 1 to 7.
@@ -41,294 +31,17 @@ enum Tried {
     Short,
 }
 
-// The number of the first device, 0 for none.
-fn first_device(table: &[u16], count: usize) -> u16
-    requires { ⌜ (count * width ≤ length (now table)) × (count ≤ 8192) ⌝ }
-    ensures { λ r. ⌜ r ≡ firstOf (kindAt (shown (now (table .entry)) count)) 1 count ⌝ }
+// Checks a pool for a table of so many entries, by a list of numbers that reaches for every record: puts as many faults as fit into
+// the buffer. The list then starts with the records' entries; after a refusal it is free.
+pub fn check_by(p: &[u8], room: usize, rows: &mut [u16], faults: &mut [u16]) -> Verdict
+    requires { ⌜ Reaches (now rows) (now p) ⌝ }
+    ensures { λ r. ⌜ (verdictOf r ≡ checkOf (now (p .entry)) room) × (recordsIn r ≡ countOf (now (p .entry)) room) × Listed (now (p .entry)) room (now (rows .entry)) (now (rows .exit)) × (now (faults .exit) ≡ faultsAfter (now (p .entry)) room (now (faults .entry))) ⌝ }
 {
-    let mut i: usize = 0;
-    while i < count {
-        if table[i * 4 + 2] == 1 {
-            return (i + 1) as u16;
-        }
-        i += 1;
-    }
-    0
-}
-
-// Whether a record is a device element of type 1.
-fn is_machine(p: &[u8], at: u16, kind: u16) -> bool
-    ensures { λ r. ⌜ r ≡ eqb (cond (eqb kind 2) (elementOf (now (p .entry)) at .«element_type») 256) 1 ⌝ }
-{
-    if kind == 2 {
-        return records::view::device_element(p, at).element_type == 1;
-    }
-    false
-}
-
-// Whether no record is a device element of type 1.
-fn lacks_machine(p: &[u8], table: &[u16], count: usize) -> bool
-    requires { ⌜ (count * width ≤ length (now table)) × (count ≤ 8192) ⌝ }
-    ensures { λ r. ⌜ r ≡ eqb (firstOf (typeKey (now (p .entry)) (shown (now (table .entry)) count)) 1 count) 0 ⌝ }
-{
-    let mut i: usize = 0;
-    while i < count {
-        if is_machine(p, table[i * 4], table[i * 4 + 2]) {
-            return false;
-        }
-        i += 1;
-    }
-    true
-}
-
-// Rules 10 and 11, of the whole pool.
-fn put_pool(p: &[u8], table: &[u16], count: usize, device: u16, faults: &mut [u16]) -> usize
-    requires { ⌜ (count * width ≤ length (now table)) × (count ≤ 8192) × (device ≡ firstOf (kindAt (shown (now table) count)) 1 count) ⌝ }
-    ensures { λ r. ⌜ Puts 0 (poolRows (now (p .entry)) (shown (now (table .entry)) count)) (now (faults .entry)) 0 (now (faults .exit)) r × (r ≤ 2) ⌝ }
-{
-    let n = faults::put_if(device == 0, faults, 0, 0, 10, 1);
-    faults::put_if(lacks_machine(p, table, count), faults, n, 0, 11, 1)
-}
-
-// The faults of a pool that has been prepared, in order, from a record on: the records before have none. The first device's
-// number is given, 0 where there is none.
-fn put_rest(
-    p: &[u8],
-    table: &[u16],
-    count: usize,
-    index: &[u16],
-    numbers: &[u16],
-    ups: &[u16],
-    device: u16,
-    room: usize,
-    list: &mut [u16],
-    seen: &mut [u16],
-    from: usize,
-    faults: &mut [u16],
-    start: usize,
-) -> usize
-    requires { ⌜ Prepared (now p) (now table) count (now index) (now numbers) (now ups) × Roomy (now p) (shown (now table) count) room × Lent room (now list) (now seen) × (device ≡ firstOf (kindAt (shown (now table) count)) 1 count) × Led (now p) (shown (now table) count) count from × (start ≤ 2) ⌝ }
-    ensures { λ r. ⌜ Completes (now (p .entry)) (shown (now (table .entry)) count) (now (faults .entry)) start (now (faults .exit)) r ⌝ }
-{
-    let mut n = start;
-    let mut i = from;
-    while i < count {
-        n = breaches::record::put_record(
-            p,
-            table,
-            count,
-            index,
-            numbers,
-            ups,
-            device,
-            room,
-            list,
-            seen,
-            i,
-            faults,
-            n,
-        );
-        i += 1;
-    }
-    n
-}
-
-// Finds out what IDs name and which chains end. Tells whether the lists are long enough for this pool.
-fn prepare(
-    p: &[u8],
-    table: &[u16],
-    count: usize,
-    index: &mut [u16],
-    numbers: &mut [u16],
-    ups: &mut [u16],
-    room: usize,
-) -> bool
-    requires { ⌜ (count * width ≤ length (now table)) × (count ≤ 8192) × Blank (now index) × Blank (now numbers) × Blank (now ups) × (count < length (now ups)) ⌝ }
-    ensures { λ r. ⌜ (r ≡ true → Prepared (now (p .entry)) (now (table .entry)) count (now (index .exit)) (now (numbers .exit)) (now (ups .exit)) × Roomy (now (p .entry)) (shown (now (table .entry)) count) room) × (65536 ≤ length (now (index .entry)) → 65536 ≤ length (now (numbers .entry)) → Roomy (now (p .entry)) (shown (now (table .entry)) count) room → r ≡ true) ⌝ }
-{
-    if !naming::index_ids(table, count, index) {
-        return false;
-    }
-    if !naming::index_numbers(p, table, count, room, numbers) {
-        return false;
-    }
-    naming::chains(p, table, count, index, ups);
-    true
-}
-
-// Short lists, for a short pool with small IDs: clearing long ones would take most of the time.
-fn try_short(
-    p: &[u8],
-    table: &[u16],
-    count: usize,
-    device: u16,
-    from: usize,
-    faults: &mut [u16],
-    start: usize,
-) -> Tried
-    requires { ⌜ (count * width ≤ length (now table)) × (count ≤ 8192) × (device ≡ firstOf (kindAt (shown (now table) count)) 1 count) × Led (now p) (shown (now table) count) count from × (start ≤ 2) ⌝ }
-    ensures { λ r. ⌜ Told (now (p .entry)) (shown (now (table .entry)) count) (now (faults .entry)) start (now (faults .exit)) r ⌝ }
-{
-    if 127 < count {
-        return Tried::Short;
-    }
-    let mut index = [0u16; 512];
-    let mut numbers = [0u16; 512];
-    let mut ups = [0u16; 128];
-    if !prepare(p, table, count, &mut index, &mut numbers, &mut ups, 128) {
-        return Tried::Short;
-    }
-    let mut list = [0u16; 128];
-    let mut seen = [0u16; 1024];
-    Tried::Counted(put_rest(
-        p,
-        table,
-        count,
-        &index,
-        &numbers,
-        &ups,
-        device,
-        128,
-        &mut list,
-        &mut seen,
-        from,
-        faults,
-        start,
-    ))
-}
-
-// Lists for a pool of any length with the IDs and element numbers that implements use.
-fn try_middle(
-    p: &[u8],
-    table: &[u16],
-    count: usize,
-    device: u16,
-    from: usize,
-    faults: &mut [u16],
-    start: usize,
-) -> Tried
-    requires { ⌜ (count * width ≤ length (now table)) × (count ≤ 8192) × (device ≡ firstOf (kindAt (shown (now table) count)) 1 count) × Led (now p) (shown (now table) count) count from × (start ≤ 2) ⌝ }
-    ensures { λ r. ⌜ Told (now (p .entry)) (shown (now (table .entry)) count) (now (faults .entry)) start (now (faults .exit)) r ⌝ }
-{
-    let mut index = [0u16; 8192];
-    let mut numbers = [0u16; 4096];
-    let mut ups = [0u16; 8193];
-    if !prepare(p, table, count, &mut index, &mut numbers, &mut ups, 32768) {
-        return Tried::Short;
-    }
-    let mut list = [0u16; 32768];
-    let mut seen = [0u16; 32768];
-    Tried::Counted(put_rest(
-        p,
-        table,
-        count,
-        &index,
-        &numbers,
-        &ups,
-        device,
-        32768,
-        &mut list,
-        &mut seen,
-        from,
-        faults,
-        start,
-    ))
-}
-
-// Lists for every pool.
-fn count_long(
-    p: &[u8],
-    table: &[u16],
-    count: usize,
-    device: u16,
-    from: usize,
-    faults: &mut [u16],
-    start: usize,
-) -> usize
-    requires { ⌜ (count * width ≤ length (now table)) × (count ≤ 8192) × (device ≡ firstOf (kindAt (shown (now table) count)) 1 count) × Led (now p) (shown (now table) count) count from × (start ≤ 2) × Roomy (now p) (shown (now table) count) 32768 ⌝ }
-    ensures { λ r. ⌜ Completes (now (p .entry)) (shown (now (table .entry)) count) (now (faults .entry)) start (now (faults .exit)) r ⌝ }
-{
-    let mut index = [0u16; 65536];
-    let mut numbers = [0u16; 65536];
-    let mut ups = [0u16; 8193];
-    if !prepare(p, table, count, &mut index, &mut numbers, &mut ups, 32768) {
-        return 0;
-    }
-    let mut list = [0u16; 32768];
-    let mut seen = [0u16; 32768];
-    put_rest(
-        p,
-        table,
-        count,
-        &index,
-        &numbers,
-        &ups,
-        device,
-        32768,
-        &mut list,
-        &mut seen,
-        from,
-        faults,
-        start,
-    )
-}
-
-// Counts and puts the faults of the records, of which so many from the first on have none, with the shortest lists that do.
-fn count_rest(
-    p: &[u8],
-    table: &[u16],
-    count: usize,
-    device: u16,
-    clear: usize,
-    faults: &mut [u16],
-    start: usize,
-) -> usize
-    requires { ⌜ (count * width ≤ length (now table)) × (count ≤ 8192) × (device ≡ firstOf (kindAt (shown (now table) count)) 1 count) × Led (now p) (shown (now table) count) count clear × (start ≤ 2) × Roomy (now p) (shown (now table) count) 32768 ⌝ }
-    ensures { λ r. ⌜ Completes (now (p .entry)) (shown (now (table .entry)) count) (now (faults .entry)) start (now (faults .exit)) r ⌝ }
-{
-    let from = sound::widened(p, table, count, device, clear, start);
-    if from == count {
-        return start;
-    }
-    let short = try_short(p, table, count, device, from, faults, start);
-    if let Tried::Counted(n) = short {
-        return n;
-    }
-    let middle = try_middle(p, table, count, device, from, faults, start);
-    if let Tried::Counted(n) = middle {
-        return n;
-    }
-    count_long(p, table, count, device, from, faults, start)
-}
-
-// Counts and puts the faults of a pool that has been read into a table. Where the pool as a whole has none, most often no
-// record has one.
-fn count_faults(p: &[u8], table: &[u16], count: usize, faults: &mut [u16]) -> usize
-    requires { ⌜ (count * width ≤ length (now table)) × (count ≤ 8192) × Roomy (now p) (shown (now table) count) 32768 ⌝ }
-    ensures { λ r. ⌜ Emits (now (faults .entry)) 0 (breachesIn (now (p .entry)) (shown (now (table .entry)) count)) (now (faults .exit)) r ⌝ }
-{
-    let device = first_device(table, count);
-    let start = put_pool(p, table, count, device, faults);
-    if 0 < start {
-        return count_rest(p, table, count, device, 0, faults, start);
-    }
-    let from = sound::leading(p, table, count, device);
-    if from == count {
-        return start;
-    }
-    count_rest(p, table, count, device, from, faults, start)
-}
-
-// Checks a pool by a list of numbers in the place of a table, which is free after a refusal, and puts as many faults as fit into
-// the buffer.
-pub fn check_by(p: &[u8], table: &mut [u16], faults: &mut [u16]) -> Verdict
-    ensures { λ r. ⌜ (verdictOf r ≡ checkOf (now (p .entry)) (roomOf (now (table .entry)))) × (recordsIn r ≡ countOf (now (p .entry)) (roomOf (now (table .entry)))) × Listed (now (p .entry)) (now (table .entry)) (now (table .exit)) × (now (faults .exit) ≡ faultsAfter (now (p .entry)) (roomOf (now (table .entry))) (now (faults .entry))) ⌝ }
-{
-    let outcome = pool::list(p, table);
+    let outcome = pool::list_for(p, room, rows);
     match outcome {
         Outcome::Records(count) => Verdict::Checked {
             records: count,
-            faults: count_faults(p, table, count, faults),
+            faults: counting::count_faults(p, rows, count, faults),
         },
         Outcome::Empty => Verdict::Empty,
         Outcome::TooLong => Verdict::TooLong,
@@ -346,30 +59,27 @@ fn check_short(p: &[u8], room: usize, faults: &mut [u16]) -> Verdict
     requires { ⌜ length (now p) ≤ 1536 ⌝ }
     ensures { λ r. ⌜ (verdictOf r ≡ checkOf (now (p .entry)) room) × (recordsIn r ≡ countOf (now (p .entry)) room) × (now (faults .exit) ≡ faultsAfter (now (p .entry)) room (now (faults .entry))) ⌝ }
 {
-    let mut list = [0u16; 512];
-    let end = pool::numbers_for(room, 128);
-    check_by(p, &mut list[..end], faults)
+    let mut rows = [0u16; 512];
+    check_by(p, room, &mut rows, faults)
 }
 
 fn check_middle(p: &[u8], room: usize, faults: &mut [u16]) -> Verdict
     requires { ⌜ length (now p) ≤ 12288 ⌝ }
     ensures { λ r. ⌜ (verdictOf r ≡ checkOf (now (p .entry)) room) × (recordsIn r ≡ countOf (now (p .entry)) room) × (now (faults .exit) ≡ faultsAfter (now (p .entry)) room (now (faults .entry))) ⌝ }
 {
-    let mut list = [0u16; 4096];
-    let end = pool::numbers_for(room, 1024);
-    check_by(p, &mut list[..end], faults)
+    let mut rows = [0u16; 4096];
+    check_by(p, room, &mut rows, faults)
 }
 
 fn check_long(p: &[u8], room: usize, faults: &mut [u16]) -> Verdict
     ensures { λ r. ⌜ (verdictOf r ≡ checkOf (now (p .entry)) room) × (recordsIn r ≡ countOf (now (p .entry)) room) × (now (faults .exit) ≡ faultsAfter (now (p .entry)) room (now (faults .entry))) ⌝ }
 {
-    let mut list = [0u16; 21844];
-    let end = pool::numbers_for(room, 5461);
-    check_by(p, &mut list[..end], faults)
+    let mut rows = [0u16; 21844];
+    check_by(p, room, &mut rows, faults)
 }
 
 // Checks a pool for a table of so many entries, which is not looked at: puts as many faults as fit into the buffer.
-pub fn check(p: &[u8], room: usize, faults: &mut [u16]) -> Verdict
+pub fn check_for(p: &[u8], room: usize, faults: &mut [u16]) -> Verdict
     ensures { λ r. ⌜ (verdictOf r ≡ checkOf (now (p .entry)) room) × (recordsIn r ≡ countOf (now (p .entry)) room) × (now (faults .exit) ≡ faultsAfter (now (p .entry)) room (now (faults .entry))) ⌝ }
 {
     if p.len() <= 1536 {

@@ -16,11 +16,11 @@ fn lead_short(p: &[u8], table: &[u16], count: usize, device: u16) -> Tried
     requires { ⌜ (count * width ≤ length (now table)) × (count ≤ 8192) × (device ≡ firstOf (kindAt (shown (now table) count)) 1 count) ⌝ }
     ensures { λ r. ⌜ LedIf (now (p .entry)) (shown (now (table .entry)) count) count r ⌝ }
 {
-    let mut links = [0u16; 512];
+    let mut links = [0u16; 256];
     if !naming::link_ids(table, count, &mut links) {
         return Tried::Short;
     }
-    let mut numbers = [0u16; 512];
+    let mut numbers = [0u16; 128];
     let mut seen = [0u16; 1024];
     Tried::Counted(breaches::lead::lead(p, table, count, device, &links, &mut numbers, &mut seen))
 }

@@ -1,4 +1,4 @@
--- What the table of an accepted pool says to a query. Assumes nothing.
+-- What the rows of an accepted pool say to a query. Assumes nothing.
 use mathlib.Core.Path.{_≡_, refl, sym, ap, _∙_}
 use mathlib.Core.List.{List}
 use Prim.Native.Nat.{ℕ, zero, suc, _+_, _-_, _*_, _<_, _≤_}
@@ -8,8 +8,8 @@ use lib.ListN.{length, getD, replicate}
 use Rattle.records.specs.Fields.{partOf, deviceOf}
 use Rattle.records.specs.declared.Span.{Span}
 use Rattle.pool.specs.Answer.{Answer, answer}
-use Rattle.pool.specs.Reading.{Entry, width, scanOf, entriesIn, readOf, roomOf, tableAfter}
-use Rattle.pool.specs.Walk.{Listed}
+use Rattle.pool.specs.Reading.{Entry, width, scanOf, entriesIn, readOf}
+use Rattle.pool.specs.Walk.{Reaches, Listed}
 use Rattle.pool.proofs.Steps.{Remaining}
 use Rattle.pool.proofs.Judged.{Counted, read-counted}
 use Rattle.naming.specs.Records.{startAt, idAt, kindAt}
@@ -19,7 +19,7 @@ use Rattle.naming.proofs.First.{first-some, first-le, first-ext}
 use Rattle.naming.proofs.Shown.{shown-long}
 use Rattle.breaches.proofs.Tabled.{starts, kinds, ids}
 use Rattle.checker.specs.Checking.{checkOf, countOf}
-use Rattle.checker.proofs.Checked.{may-count, table-shows}
+use Rattle.checker.proofs.Checked.{may-count, rows-show}
 use Rattle.device.specs.Queries.{refusalIn, acceptance, textIn, carrier, textNumber, textSpan, deviceIn, padded, ifAccepted, Labelled, structureLabel, localizationLabel, extendedText, extendedLabel, extendedCount}
 use Rattle.device.specs.Parts.{columnIn, LabelledBy}
 use Rattle.device.specs.declared.DeviceLabels.{DeviceLabels}
@@ -56,20 +56,18 @@ pub text-missing : (p : List ℕ) (room id : ℕ) → 0 ≡ acceptance p room �
 unfolding textNumber textSpan
 text-missing p room id ok e = rw (← ok, e) (refl, refl, refl)
 
--- ---- an accepted pool, and the table that checking has filled
+-- ---- an accepted pool, and the rows that checking has listed
 
-module _ (p table filled : List ℕ) (n : ℕ) (ok : 0 ≡ acceptance p (roomOf table)) (c : n ≡ countOf p (roomOf table)) (l : Listed p table filled) where
-  read : answer 0 n ≡ readOf p (roomOf table)
-  read = ap (answer 0) c ∙ accepted-read p (roomOf table) (sym ok)
-
-  f : filled ≡ tableAfter p table
-  f = l (sym (ap (λ (a : Answer). a .number) read))
+module _ (p : List ℕ) (room : ℕ) (rows filled : List ℕ) (n : ℕ) (reach : Reaches rows p) (ok : 0 ≡ acceptance p room) (c : n ≡ countOf p room)
+    (l : Listed p room rows filled) where
+  read : answer 0 n ≡ readOf p room
+  read = ap (answer 0) c ∙ accepted-read p room (sym ok)
 
   pub may-look : (n * width ≤ length filled) × (n ≤ 8192)
-  may-look = let m = may-count p table filled n read l in (m .0, m .1)
+  may-look = let m = may-count p room rows filled n read reach l in (m .0, m .1)
 
   pub shows : shown filled n ≡ entriesIn (scanOf p)
-  shows = ap (λ (t : List ℕ). shown t n) f ∙ table-shows p table n read
+  shows = rows-show p room rows filled n read reach l
 
   pub long : length (entriesIn (scanOf p)) ≡ n
   long = sym (ap length shows) ∙ shown-long filled n
@@ -89,17 +87,17 @@ module _ (p table filled : List ℕ) (n : ℕ) (ok : 0 ≡ acceptance p (roomOf 
   stands : (i : ℕ) → i < n → Stands p (startAt (entriesIn (scanOf p)) i) (kindAt (entriesIn (scanOf p)) i)
   unfolding scanOf
   stands i h =
-      let k : Counted p (roomOf table) n = read-counted p (roomOf table) n read in
-      let r : Remaining p 0 (entriesIn (scanOf p)) = record { turns = length p; enough = omega arith; reads = k .scanned } in
-      left-stand p (entriesIn (scanOf p)) 0 r i (omega (arith, long))
+      let k : Counted p room n = read-counted p room n read in
+      let m : Remaining p 0 (entriesIn (scanOf p)) = record { turns = length p; enough = omega arith; reads = k .scanned } in
+      left-stand p (entriesIn (scanOf p)) 0 m i (omega (arith, long))
 
-  -- a record's place in the table
-  pub in-table : (key : ℕ → ℕ) (x r : ℕ) → r ≡ firstOf key x n → (r ≡ 0 → ⊥) → (r - 1) * width + 3 < length filled
-  in-table key x r e z = omega (arith, may-look .0, first-le key x n)
+  -- a record's place in the rows
+  pub in-rows : (key : ℕ → ℕ) (x r : ℕ) → r ≡ firstOf key x n → (r ≡ 0 → ⊥) → (r - 1) * width + 3 < length filled
+  in-rows key x r e z = omega (arith, may-look .0, first-le key x n)
 
   pub text-found : (r id : ℕ) (s : Span) → r ≡ carrier (entriesIn (scanOf p)) id → (r ≡ 0 → ⊥)
       → s ≡ textIn p (getD filled ((r - 1) * width + 2) 0) (getD filled ((r - 1) * width) 0)
-      → (0 ≡ textNumber p (roomOf table) id) × (s .from ≡ textSpan p (roomOf table) id .from) × (s .to ≡ textSpan p (roomOf table) id .to)
+      → (0 ≡ textNumber p room id) × (s .from ≡ textSpan p room id .from) × (s .to ≡ textSpan p room id .to)
       × ((s .from ≤ s .to) × (s .to ≤ length p))
   unfolding textNumber textSpan
   text-found r id s e z is =
@@ -114,7 +112,7 @@ module _ (p table filled : List ℕ) (n : ℕ) (ok : 0 ≡ acceptance p (roomOf 
   -- the device, by its number
   module _ (r : ℕ) (e : r ≡ firstOf (columnIn filled 2) 1 n) where
     pub device-there : r ≡ 0 → ⊥
-    device-there z = accepted-device p (roomOf table) (sym ok) (sym (devices-first r e) ∙ z)
+    device-there z = accepted-device p room (sym ok) (sym (devices-first r e) ∙ z)
 
     device-number : firstOf (kindAt (entriesIn (scanOf p))) 1 (length (entriesIn (scanOf p))) ≡ suc (r - 1)
     device-number =
@@ -138,7 +136,7 @@ module _ (p table filled : List ℕ) (n : ℕ) (ok : 0 ≡ acceptance p (roomOf 
     unfolding deviceIn
     device-is = rw (device-number, start-at (r - 1) (device-listed .0))
 
-    pub labels-found : (l : DeviceLabels) → LabelledBy p (deviceOf p (getD filled ((r - 1) * width) 0)) l → Labelled p (roomOf table) l
+    pub labels-found : (l : DeviceLabels) → LabelledBy p (deviceOf p (getD filled ((r - 1) * width) 0)) l → Labelled p room l
     unfolding structureLabel localizationLabel extendedLabel extendedCount extendedText
     labels-found l h =
         let g : LabelledBy p (deviceIn p (entriesIn (scanOf p))) l = rw device-is at h in

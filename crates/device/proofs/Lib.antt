@@ -3,4 +3,3 @@ pub mod Accepted
 pub mod Whole
 pub mod Asked
 pub mod Padded
-pub mod Rooms

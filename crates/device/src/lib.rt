@@ -6,9 +6,10 @@ ghost use mathlib.Core.Path.{_≡_};
 ghost use Prim.Native.Nat.{_*_, _≤_, _<_};
 ghost use lib.ListN.{length};
 ghost use Rattle.records.specs.Fields.{partOf, deviceOf};
-ghost use Rattle.pool.specs.Reading.{width, roomOf};
+ghost use Rattle.pool.specs.Reading.{width};
+ghost use Rattle.pool.specs.Walk.{Reaches};
 ghost use Rattle.naming.specs.Naming.{firstOf};
-ghost use Rattle.checker.specs.Checking.{verdictOf, countOf};
+ghost use Rattle.checker.specs.Checking.{verdictOf};
 ghost use Rattle.device.specs.Queries.{refusalIn, textIn, Finds, Labelled};
 ghost use Rattle.device.specs.Parts.{columnIn, LabelledBy};
 
@@ -41,13 +42,6 @@ pub fn refusal(verdict: Verdict) -> u32
         return 24;
     }
     0
-}
-
-// How many entries a query fills of a table of so many: as reading does, also where it is refused with 24 or 28.
-pub fn records_for(p: &[u8], room: usize) -> usize
-    ensures { λ r. ⌜ r ≡ countOf (now (p .entry)) room ⌝ }
-{
-    pool::records_of(pool::judge(p, room))
 }
 
 // The number, from 1, of the first record that has x in a column of the table, 0 for none. Column 2 is the kind, 3 the ID.
@@ -87,13 +81,14 @@ fn text_in(p: &[u8], kind: u16, at: u16) -> Span
     Span { from: 0, to: 0 }
 }
 
-// Finds a text by a list of numbers in the place of a table. Of the faults only the count matters, so the buffer for them has
+// Finds a text by a list of numbers that reaches for every record. Of the faults only the count matters, so the buffer for them has
 // room for one.
-fn find_text_by(p: &[u8], table: &mut [u16], id: u16) -> Place
-    ensures { λ r. ⌜ Finds (now (p .entry)) (roomOf (now (table .entry))) id r ⌝ }
+fn find_text_by(p: &[u8], room: usize, rows: &mut [u16], id: u16) -> Place
+    requires { ⌜ Reaches (now rows) (now p) ⌝ }
+    ensures { λ r. ⌜ Finds (now (p .entry)) room id r ⌝ }
 {
     let mut faults = [0u16; 3];
-    let verdict = checker::check_by(p, table, &mut faults);
+    let verdict = checker::check_by(p, room, rows, &mut faults);
     let number = refusal(verdict);
     if number != 0 {
         return Place {
@@ -102,7 +97,7 @@ fn find_text_by(p: &[u8], table: &mut [u16], id: u16) -> Place
             to: 0,
         };
     }
-    let record = first_with(table, checker::records_of(verdict), 3, id) as usize;
+    let record = first_with(rows, checker::records_of(verdict), 3, id) as usize;
     if record == 0 {
         return Place {
             number: 28,
@@ -111,7 +106,7 @@ fn find_text_by(p: &[u8], table: &mut [u16], id: u16) -> Place
         };
     }
     let entry = (record - 1) * 4;
-    let text = text_in(p, table[entry + 2], table[entry]);
+    let text = text_in(p, rows[entry + 2], rows[entry]);
     Place {
         number: 0,
         from: text.from,
@@ -123,9 +118,8 @@ fn find_text_by(p: &[u8], table: &mut [u16], id: u16) -> Place
 pub fn find_text(p: &[u8], room: usize, id: u16) -> Place
     ensures { λ r. ⌜ Finds (now (p .entry)) room id r ⌝ }
 {
-    let mut list = [0u16; 21844];
-    let end = pool::numbers_for(room, 5461);
-    find_text_by(p, &mut list[..end], id)
+    let mut rows = [0u16; 21844];
+    find_text_by(p, room, &mut rows, id)
 }
 
 // A text that was looked for, as a slice of the pool that was lent. The number tells a refusal from a text without bytes.
@@ -164,12 +158,13 @@ fn labels_at(p: &[u8], at: u16) -> DeviceLabels
     }
 }
 
-// The labels by a list of numbers in the place of a table. An accepted pool has a device, so no test looks for its absence.
-fn labels_by(p: &[u8], table: &mut [u16]) -> DeviceLabels
-    ensures { λ r. ⌜ Labelled (now (p .entry)) (roomOf (now (table .entry))) r ⌝ }
+// The labels by a list of numbers that reaches for every record. An accepted pool has a device, so no test looks for its absence.
+fn labels_by(p: &[u8], room: usize, rows: &mut [u16]) -> DeviceLabels
+    requires { ⌜ Reaches (now rows) (now p) ⌝ }
+    ensures { λ r. ⌜ Labelled (now (p .entry)) room r ⌝ }
 {
     let mut faults = [0u16; 3];
-    let verdict = checker::check_by(p, table, &mut faults);
+    let verdict = checker::check_by(p, room, rows, &mut faults);
     let number = refusal(verdict);
     if number != 0 {
         return DeviceLabels {
@@ -180,15 +175,14 @@ fn labels_by(p: &[u8], table: &mut [u16]) -> DeviceLabels
             extended_length: 0,
         };
     }
-    let record = first_with(table, checker::records_of(verdict), 2, 1) as usize;
-    labels_at(p, table[(record - 1) * 4])
+    let record = first_with(rows, checker::records_of(verdict), 2, 1) as usize;
+    labels_at(p, rows[(record - 1) * 4])
 }
 
 // The labels of the device, by value, with the count of the extended label's bytes.
 pub fn labels(p: &[u8], room: usize) -> DeviceLabels
     ensures { λ r. ⌜ Labelled (now (p .entry)) room r ⌝ }
 {
-    let mut list = [0u16; 21844];
-    let end = pool::numbers_for(room, 5461);
-    labels_by(p, &mut list[..end])
+    let mut rows = [0u16; 21844];
+    labels_by(p, room, &mut rows)
 }

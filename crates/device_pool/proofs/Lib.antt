@@ -1,3 +1,2 @@
 -- What belongs to no one function.
-pub mod Counting
-pub mod Counts
+pub mod Tables

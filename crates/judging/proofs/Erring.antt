@@ -6,7 +6,7 @@ use Prim.Native.Nat.{ℕ, _≤_, _<_}
 use native.Mathlib.Omega.{arith}
 use borrow.Author.Tests.{ne-eqb, lt-ltb, le-ltb}
 use lib.IntN.{ℤ}
-use Rattle.pool.specs.Reading.{Entry, scanOf, entriesIn, roomOf}
+use Rattle.pool.specs.Reading.{Entry, scanOf, entriesIn}
 use Rattle.naming.specs.Naming.{kindOf}
 use Rattle.naming.specs.Lists.{shown, kindIn}
 use Rattle.device.specs.Queries.{acceptance, startOf}
@@ -71,20 +71,20 @@ module _ (p table : List ℕ) (count command element ddi : ℕ) (value : ℤ) (c
 
 -- ---- the answer
 
-module _ (p table : List ℕ) (command element ddi : ℕ) (value : ℤ) where
+module _ (p : List ℕ) (room command element ddi : ℕ) (value : ℤ) where
   pub too-large : 4095 < element
-      → (32 ≡ judgeNumber p (roomOf table) element) × (0 ≡ judgeError p (roomOf table) command element ddi value)
+      → (32 ≡ judgeNumber p room element) × (0 ≡ judgeError p room command element ddi value)
   unfolding judgeNumber judgeError
   too-large h = rw (lt-ltb 4095 element h) (refl, refl)
 
-  module _ (small : element ≤ 4095) (number : ℕ) (refused : number ≡ acceptance p (roomOf table)) (filled : List ℕ) where
+  module _ (small : element ≤ 4095) (number : ℕ) (refused : number ≡ acceptance p room) (filled : List ℕ) where
     pub not-accepted : (number ≡ 0 → ⊥)
-        → (number ≡ judgeNumber p (roomOf table) element) × (0 ≡ judgeError p (roomOf table) command element ddi value)
+        → (number ≡ judgeNumber p room element) × (0 ≡ judgeError p room command element ddi value)
     unfolding judgeNumber judgeError
     not-accepted h = rw (le-ltb 4095 element small, ← refused, ne-eqb number 0 h) (refl, refl)
 
     pub judged : number ≡ 0 → (count error : ℕ) → error ≡ errorOf p (shown filled count) command element ddi value → shown filled count ≡ entriesIn (scanOf p)
-        → (0 ≡ judgeNumber p (roomOf table) element) × (error ≡ judgeError p (roomOf table) command element ddi value)
+        → (0 ≡ judgeNumber p room element) × (error ≡ judgeError p room command element ddi value)
     unfolding judgeNumber judgeError
     judged z count error e shows =
         rw (le-ltb 4095 element small, ← refused, z)

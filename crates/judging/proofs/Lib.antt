@@ -2,4 +2,3 @@
 pub mod Found
 pub mod Erring
 pub mod Unique
-pub mod Rooms

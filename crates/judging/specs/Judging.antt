@@ -9,7 +9,6 @@ use lib.Signed.{ltZ}
 use Rattle.records.specs.Fields.{elementOf, entryOf, processDataOf}
 use Rattle.pool.specs.Reading.{Entry, scanOf, entriesIn}
 use Rattle.naming.specs.Naming.{firstOf, numberKey, named, kindOf, tagOf}
-use Rattle.checker.specs.Checking.{countOf}
 use Rattle.device.specs.Queries.{acceptance, startOf}
 use Rattle.messages.specs.Layout.{carriesValue}
 
@@ -80,7 +79,3 @@ judgeNumber p room element = cond (ltb 4095 element) 32 (acceptance p room)
 unfoldable pub judgeError : List ℕ → ℕ → ℕ → ℕ → ℕ → ℤ → ℕ
 judgeError p room command element ddi value =
     cond (eqb (judgeNumber p room element) 0) (errorOf p (entriesIn (scanOf p)) command element ddi value) 0
-
--- how many entries of the table are filled: the pool is not looked at for 32, so the table stays; else as by reading
-unfoldable pub recordsFor : List ℕ → ℕ → ℕ → ℕ
-recordsFor p room element = cond (ltb 4095 element) 0 (countOf p room)

@@ -5,11 +5,12 @@ ghost use Prim.Native.Nat.{suc, _*_, _≤_};
 ghost use lib.Dec.{eqb};
 ghost use lib.ListN.{length};
 ghost use Rattle.records.specs.Fields.{elementOf};
-ghost use Rattle.pool.specs.Reading.{width, roomOf};
+ghost use Rattle.pool.specs.Reading.{width};
+ghost use Rattle.pool.specs.Walk.{Reaches};
 ghost use Rattle.naming.specs.Naming.{firstOf};
 ghost use Rattle.naming.specs.Lists.{shown};
 ghost use Rattle.naming.specs.Steps.{numberIn};
-ghost use Rattle.judging.specs.Judging.{propertiesIn, triggersIn, objectFor, lacksSetting, lacksTrigger, lacksInterval, objectError, errorOf, judgeNumber, judgeError, recordsFor};
+ghost use Rattle.judging.specs.Judging.{propertiesIn, triggersIn, objectFor, lacksSetting, lacksTrigger, lacksInterval, objectError, errorOf, judgeNumber, judgeError};
 ghost use Rattle.judging.specs.One.{AcceptedNamesOne};
 ghost use Rattle.judging.specs.Parts.{startIn, objectIn};
 
@@ -176,17 +177,19 @@ fn error_in(
     object_error(bits.properties, bits.triggers, command, value)
 }
 
-// Judges a command by a list of numbers in the place of a table. Of the faults only the count matters, so the buffer for them
-// has room for one.
+// Judges a command by a list of numbers that reaches for every record. Of the faults only the count matters, so the buffer for
+// them has room for one.
 fn judge_by(
     p: &[u8],
-    table: &mut [u16],
+    room: usize,
+    rows: &mut [u16],
     command: u8,
     element: u16,
     ddi: u16,
     value: i32,
 ) -> Judgement
-    ensures { λ r. ⌜ (r .number ≡ judgeNumber (now (p .entry)) (roomOf (now (table .entry))) element) × (r .error ≡ judgeError (now (p .entry)) (roomOf (now (table .entry))) command element ddi value) ⌝ }
+    requires { ⌜ Reaches (now rows) (now p) ⌝ }
+    ensures { λ r. ⌜ (r .number ≡ judgeNumber (now (p .entry)) room element) × (r .error ≡ judgeError (now (p .entry)) room command element ddi value) ⌝ }
 {
     if 4095 < element {
         return Judgement {
@@ -195,7 +198,7 @@ fn judge_by(
         };
     }
     let mut faults = [0u16; 3];
-    let verdict = checker::check_by(p, table, &mut faults);
+    let verdict = checker::check_by(p, room, rows, &mut faults);
     let number = device::refusal(verdict);
     if number != 0 {
         return Judgement { number, error: 0 };
@@ -203,7 +206,7 @@ fn judge_by(
     let count = checker::records_of(verdict);
     Judgement {
         number: 0,
-        error: error_in(p, table, count, command, element, ddi, value),
+        error: error_in(p, rows, count, command, element, ddi, value),
     }
 }
 
@@ -211,19 +214,8 @@ fn judge_by(
 pub fn judge(p: &[u8], room: usize, command: u8, element: u16, ddi: u16, value: i32) -> Judgement
     ensures { λ r. ⌜ (r .number ≡ judgeNumber (now (p .entry)) room element) × (r .error ≡ judgeError (now (p .entry)) room command element ddi value) ⌝ }
 {
-    let mut list = [0u16; 21844];
-    let end = pool::numbers_for(room, 5461);
-    judge_by(p, &mut list[..end], command, element, ddi, value)
-}
-
-// How many entries judging a command fills of a table of so many: none where the pool is not looked at.
-pub fn records_for(p: &[u8], room: usize, element: u16) -> usize
-    ensures { λ r. ⌜ r ≡ recordsFor (now (p .entry)) room element ⌝ }
-{
-    if 4095 < element {
-        return 0;
-    }
-    device::records_for(p, room)
+    let mut rows = [0u16; 21844];
+    judge_by(p, room, &mut rows, command, element, ddi, value)
 }
 
 // An accepted pool has one element and one object for a command. The function does nothing: its contract is the claim, so that

@@ -11,8 +11,7 @@ mod text;
 ghost use Prim.Native.Nat.{_+_, _*_, _≤_, _<_};
 ghost use mathlib.Core.Path.{_≡_};
 ghost use lib.ListN.{length, replicate};
-ghost use Rattle.working_table.specs.Filling.{blank};
-ghost use Rattle.working_table.specs.Table.{recordsAfter};
+ghost use Rattle.working_table.specs.Table.{blank, recordsAfter};
 ghost use Rattle.working_table.specs.Rows.{spreadOver};
 ghost use Rattle.checker.specs.Checking.{verdictOf, recordsIn, checkOf, countOf, faultsAfter};
 
@@ -134,7 +133,7 @@ fn check_listing(p: &[u8], rows: &mut [u16], faults: &mut [u16]) -> Verdict
         id: 0,
     };
     let mut table = [blank; 2048];
-    let verdict = device_pool::check(p, &mut table, faults);
+    let verdict = checker::check(p, &mut table, faults);
     working_table::spread(&table, rows);
     verdict
 }

@@ -1,9 +1,10 @@
 -- One record more in a list of records by a key, and what the list and the table say of a number. Assumes nothing.
 use mathlib.Core.Path.{_≡_, refl, sym, ap, _∙_, subst}
-use mathlib.Core.Bool.{cond}
+use mathlib.Core.Bool.{true, cond}
 use mathlib.Core.List.{List}
 use Prim.Native.Nat.{ℕ, zero, suc, _+_, _-_, _*_, _≤_, _<_}
-use native.Mathlib.Decide.{ℕ-discrete}
+use native.Mathlib.Numerals.{add-one}
+use native.Mathlib.Decide.{ℕ-discrete, decLt}
 use native.Mathlib.Omega.{arith}
 use borrow.Author.Tests.{eq-eqb, ne-eqb}
 use lib.Dec.{eqb}
@@ -13,8 +14,8 @@ use Rattle.records.specs.Fields.{elementOf}
 use Rattle.pool.specs.Reading.{Entry}
 use Rattle.naming.specs.Naming.{firstOf, numberKey}
 use Rattle.naming.specs.Lists.{entryIn, shown, kindIn, Indexed, IndexedBelow, Roomy}
-use Rattle.naming.specs.Records.{idAt}
-use Rattle.naming.specs.Links.{linkOf, Linked}
+use Rattle.naming.specs.Records.{idAt, kindAt}
+use Rattle.naming.specs.Links.{linkOf, Linked, ownFits, Owned}
 use Rattle.naming.specs.Steps.{entered, numberIn, RoomIn}
 use Rattle.naming.proofs.First.{first-other, first-kept, first-here, first-ext}
 use Rattle.naming.proofs.Shown.{shown-long, shown-at}
@@ -68,6 +69,22 @@ indexed-more key index i k e l h x = entered-more itself refl (λ (r : ℕ) (z :
 -- a link to it
 pub linked-more : (es : List Entry) (links : List ℕ) (i k v : ℕ) → idAt es i ≡ k → k < length links → v ≡ linkOf es (i + 1) → Linked es i links → Linked es (i + 1) (entered links k v)
 linked-more es links i k v e l is h x = rw is (entered-more (linkOf es) refl (link-some es) (idAt es) links i k e l (h k) x (h x))
+
+-- one record more that keeps rules 1 and 2
+pub owned-more : (es : List Entry) (i : ℕ) → Owned es i → ownFits (kindAt es i) (idAt es i) ≡ true → firstOf (idAt es) (idAt es i) i ≡ 0 → Owned es (i + 1)
+owned-more es i h fits none j l = go (decLt j i)
+  where
+    go : Dec (j < i) → (ownFits (kindAt es j) (idAt es j) ≡ true) × (firstOf (idAt es) (idAt es j) (i + 1) ≡ suc j)
+    go (yes b) =
+        let o = h j b in
+        (o .0, first-kept (idAt es) (idAt es j) i (λ (z : firstOf (idAt es) (idAt es j) i ≡ 0). omega (arith, o .1, z)) ∙ o .1)
+    go (no b) =
+        let e : j ≡ i = omega arith in
+        rw e (fits, first-here (idAt es) (idAt es i) i none refl ∙ add-one i)
+
+-- a link that is missing is a record that is missing
+pub unlinked : (es : List Entry) (links : List ℕ) (i k : ℕ) → idAt es i ≡ k → getD links k 0 ≡ 0 → Linked es i links → firstOf (idAt es) (idAt es i) i ≡ 0
+unlinked es links i k e z h = rw e (link-some es (firstOf (idAt es) k i) (sym (h k) ∙ z))
 
 -- the element number by the table is the key of the record that the table shows
 pub number-shown : (p table : List ℕ) (n i : ℕ) → i < n → numberIn p table i ≡ numberKey p (shown table n) i

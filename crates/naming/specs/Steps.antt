@@ -28,3 +28,7 @@ Climbs f n m ups = (r : ℕ) → r ≤ n → (k : ℕ) × (m ≤ k) × (getD ups
 -- twice as many steps, whatever the steps are
 abbrev pub Doubles : ℕ → List ℕ → List ℕ → Type 0
 Doubles n before after = (f : ℕ → ℕ) (m : ℕ) → f 0 ≡ 0 → Climbs f n m before → Climbs f n (m + m) after
+
+-- a step from a number whose chain has not ended leads to another such number
+abbrev pub Closed : ℕ → List ℕ → Type 0
+Closed n ups = (r : ℕ) → r ≤ n → (getD ups r 0 ≡ 0 → ⊥) → getD ups (getD ups r 0) 0 ≡ 0 → ⊥

@@ -8,8 +8,8 @@ ghost use Rattle.pool.specs.Reading.{width};
 ghost use Rattle.naming.specs.Records.{idAt};
 ghost use Rattle.naming.specs.Naming.{numberKey, parentOf};
 ghost use Rattle.naming.specs.Lists.{shown, kindIn, Blank, Indexed, IndexedBelow, Ended, Roomy};
-ghost use Rattle.naming.specs.Links.{linkKind, Linked};
-ghost use Rattle.naming.specs.Steps.{entered, numberIn, RoomIn, Climbs, Doubles};
+ghost use Rattle.naming.specs.Links.{linkKind, Linked, ownFits, Owned};
+ghost use Rattle.naming.specs.Steps.{entered, numberIn, RoomIn, Climbs, Doubles, Closed};
 
 // Puts a record's number under a key that has none yet.
 fn enter(index: &mut [u16], key: u16, number: u16)
@@ -53,20 +53,49 @@ fn link_kind(kind: u16) -> u16
     kind
 }
 
+// Rule 1: whether a record of a kind may have an ID.
+fn is_own(kind: u16, id: u16) -> bool
+    ensures { λ r. ⌜ r ≡ ownFits kind id ⌝ }
+{
+    if kind == 1 {
+        return id == 0;
+    }
+    (id != 0) & (id != 65535)
+}
+
+// Puts a link under the ID of a record, where the list is long enough, the record may have it and none before has it. Tells
+// whether that is so.
+fn link_own(links: &mut [u16], kind: u16, id: u16, link: u16) -> bool
+    ensures { λ r. ⌜ (r ≡ true → (id < length (now (links .entry))) × (getD (now (links .entry)) id 0 ≡ 0) × (ownFits kind id ≡ true) × (now (links .exit) ≡ entered (now (links .entry)) id link)) ⌝ }
+{
+    let at = id as usize;
+    if links.len() <= at {
+        return false;
+    }
+    if !is_own(kind, id) {
+        return false;
+    }
+    if links[at] != 0 {
+        return false;
+    }
+    links[at] = link;
+    true
+}
+
 // Lists by ID a link to each record: its place in the table and its kind in one number. Tells whether the list is long enough
-// for every ID.
+// for every ID and no record breaks rule 1 or 2.
 pub fn link_ids(table: &[u16], count: usize, links: &mut [u16]) -> bool
     requires { ⌜ (count * width ≤ length (now table)) × (count ≤ 8192) × Blank (now links) ⌝ }
-    ensures { λ r. ⌜ (r ≡ true → Linked (shown (now (table .entry)) count) count (now (links .exit))) ⌝ }
+    ensures { λ r. ⌜ (r ≡ true → Linked (shown (now (table .entry)) count) count (now (links .exit)) × Owned (shown (now (table .entry)) count) count) ⌝ }
 {
     let mut i: usize = 0;
     while i < count {
         let kind = table[i * 4 + 2];
         let id = table[i * 4 + 3];
-        if links.len() <= id as usize {
+        let link = (i * 8) as u16 + link_kind(kind);
+        if !link_own(links, kind, id, link) {
             return false;
         }
-        enter(links, id, (i * 8) as u16 + link_kind(kind));
         i += 1;
     }
     true
@@ -172,23 +201,25 @@ fn parents(p: &[u8], table: &[u16], count: usize, index: &[u16], ups: &mut [u16]
     left
 }
 
-// Replaces each step up by the step from there: at least twice as many. Tells whether a chain is left that has not ended.
+// Replaces each step up by the step from there: at least twice as many. It goes from the last record to the first, so that a
+// chain whose parents stand behind is climbed in one round. Tells whether a chain has come to its end in this round.
 fn jump(ups: &mut [u16], count: usize) -> bool
     requires { ⌜ (count ≤ 8192) × (count < length (now ups)) × (getD (now ups) 0 0 ≡ 0) × ((r : ℕ) → r ≤ count → getD (now ups) r 0 ≤ count) ⌝ }
-    ensures { λ left. ⌜ Doubles count (now (ups .entry)) (now (ups .exit)) × (left ≡ false → (r : ℕ) → r ≤ count → getD (now (ups .exit)) r 0 ≡ 0) ⌝ }
+    ensures { λ ended. ⌜ Doubles count (now (ups .entry)) (now (ups .exit)) × (ended ≡ false → Closed count (now (ups .entry)) × ((r : ℕ) → r ≤ count → getD (now (ups .entry)) r 0 ≡ 0 → getD (now (ups .exit)) r 0 ≡ 0)) ⌝ }
 {
-    let mut left = false;
-    let mut r: usize = 1;
-    while r <= count {
-        let next = ups[ups[r] as usize];
+    let mut ended = false;
+    let mut r = count;
+    while 0 < r {
+        let up = ups[r];
+        let next = ups[up as usize];
         ups[r] = next;
-        left = left | (next != 0);
-        r += 1;
+        ended = ended | ((up != 0) & (next == 0));
+        r -= 1;
     }
-    left
+    ended
 }
 
-// Finds for every record whether its chain of parents ends.
+// Finds for every record whether its chain of parents ends. After a round in which none has come to its end, none will.
 pub fn chains(p: &[u8], table: &[u16], count: usize, index: &[u16], ups: &mut [u16])
     requires { ⌜ (count * width ≤ length (now table)) × (count ≤ 8192) × Indexed (idAt (shown (now table) count)) count (now index) × (count < length (now ups)) × Blank (now ups) ⌝ }
     ensures { λ _. ⌜ Ended (now (p .entry)) (shown (now (table .entry)) count) count (now (ups .exit)) ⌝ }

@@ -12,12 +12,12 @@ use lib.ListN.{length}
 use lib.Seq.{sets}
 use types.Run.{OneOf}
 use Rattle.pool.specs.Answer.{Answer, answer, answerOf}
-use Rattle.pool.specs.Reading.{Entry, width, flat, Cause, unmarked, cut, over, causeNumber, Scan, records, refused, scanOf, entriesIn, pick, pickTable, counted, readOf, roomOf, tableAfter}
-use Rattle.pool.specs.Walk.{countFrom, ListsIf, Listed}
+use Rattle.pool.specs.Reading.{Entry, width, flat, Cause, unmarked, cut, over, causeNumber, Scan, records, refused, scanOf, entriesIn, pick, counted, readOf}
+use Rattle.pool.specs.Walk.{countFrom, ListsIf, Reaches, Listed}
 use Rattle.pool.specs.declared.Outcome.{Outcome}
 use Rattle.pool.specs.declared.Outcome.the-variants.{Records, Empty, TooLong, NoMark, Cut, LengthOver, TooMany, TableShort}
 use Rattle.pool.proofs.Outcome.{the-type}
-use Rattle.pool.proofs.Steps.{cause-number}
+use Rattle.pool.proofs.Steps.{cause-number, few-records}
 
 pub read-empty : (p : List ℕ) (room : ℕ) → length p ≡ 0 → readOf p room ≡ answer 1 0
 unfolding readOf
@@ -110,20 +110,28 @@ read-counted p room n e =
         lt-of-le-ne : (length p ≡ 0 → ⊥) → 0 < length p
         lt-of-le-ne z = omega arith
 
+-- a record takes at least twelve bytes
+pub read-few : (p : List ℕ) (room n : ℕ) → answer 0 n ≡ readOf p room → 12 * n ≤ length p
+read-few p room n e =
+    let k = read-counted p room n e in
+    omega (arith, k .count, few-records p (entriesIn (scanOf p)) (k .scanned))
+
 -- a refusal lists nothing
 pub unlisted : (number : ℕ) (s : Scan) (before after : List ℕ) (a : Answer) → a ≡ answer (suc number) 0 → ListsIf (a .number) s before after
 unlisted number s before after a e z =
     let n : a .number ≡ suc number = ap (λ (x : Answer). x .number) e in
     absurd (omega arith)
 
--- the list of a pool that is read
-pub table-read : (p table : List ℕ) (n : ℕ) → answer 0 n ≡ readOf p (roomOf table) → tableAfter p table ≡ sets table 0 (flat (entriesIn (scanOf p)))
-unfolding tableAfter
-table-read p table n e = rw (eq-eqb (readOf p (roomOf table) .number) 0 (sym (ap (λ (a : Answer). a .number) e)))
+-- a list that reaches for every record holds those of a pool that is read
+pub reached : (p list : List ℕ) (room n : ℕ) → Reaches list p → answer 0 n ≡ readOf p room → n * width ≤ length list
+reached p list room n r e =
+    let k = read-counted p room n e in
+    omega (arith, read-few p room n e, r (k .short))
 
-pub listed : (p before after : List ℕ) → ListsIf (readOf p (roomOf before) .number) (scanOf p) before after → Listed p before after
-listed p before after f z =
-    let n = readOf p (roomOf before) .value in
-    let e : answer 0 n ≡ readOf p (roomOf before) = ap (λ (k : ℕ). answer k n) (sym z) in
-    let k = read-counted p (roomOf before) n e in
-    f z (entriesIn (scanOf p)) (k .scanned) (omega (arith, k .count, k .fits)) ∙ sym (table-read p before n e)
+pub listed : (p : List ℕ) (room : ℕ) (before after : List ℕ) → Reaches before p → ListsIf (readOf p room .number) (scanOf p) before after
+    → Listed p room before after
+listed p room before after r f z =
+    let n = readOf p room .value in
+    let e : answer 0 n ≡ readOf p room = ap (λ (k : ℕ). answer k n) (sym z) in
+    let k = read-counted p room n e in
+    f z (entriesIn (scanOf p)) (k .scanned) (omega (arith, k .count, reached p before room n r e))

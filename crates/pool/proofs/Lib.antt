@@ -2,4 +2,3 @@
 pub mod Steps
 pub mod Listing
 pub mod Judged
-pub mod Within

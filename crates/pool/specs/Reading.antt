@@ -1,10 +1,9 @@
 -- Reading a pool: document 01, "Reading a pool". Definitions only.
-use Prim.Native.Nat.{ℕ, zero, suc, _+_, _-_, _/_}
-use mathlib.Core.Bool.{Bool, true, false, cond}
+use Prim.Native.Nat.{ℕ, zero, suc, _+_, _-_}
+use mathlib.Core.Bool.{Bool, true, false}
 use mathlib.Core.List.{List, [], _∷_, _++_}
 use lib.Dec.{eqb, ltb}
 use lib.ListN.{length}
-use lib.Seq.{sets}
 use Rattle.records.specs.Layout.{markNumber, markOf, three}
 use Rattle.records.specs.Extents.{extentOf}
 use Rattle.records.specs.Fields.{idOf}
@@ -90,18 +89,3 @@ counted room (records es) = pick (ltb 8192 (length es)) (answer 6 0) (pick (ltb 
 -- the size is judged before anything else; room is the number of entries that the table has
 unfoldable pub readOf : List ℕ → ℕ → Answer
 readOf p room = pick (eqb (length p) 0) (answer 1 0) (pick (ltb 65535 (length p)) (answer 2 0) (counted room (scanOf p)))
-
-abbrev pub roomOf : List ℕ → ℕ
-roomOf table = length table / width
-
--- a room that is no larger than it has to be
-abbrev pub least : ℕ → ℕ → ℕ
-least room most = cond (ltb room most) room most
-
-abbrev pub pickTable : Bool → List ℕ → List ℕ → List ℕ
-pickTable true a b = a
-pickTable false a b = b
-
--- the table after reading: the entries from its start where the pool is read, later numbers as they were; else unchanged
-unfoldable pub tableAfter : List ℕ → List ℕ → List ℕ
-tableAfter p table = pickTable (eqb (readOf p (roomOf table) .number) 0) (sets table 0 (flat (entriesIn (scanOf p)))) table

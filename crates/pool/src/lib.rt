@@ -5,8 +5,8 @@ ghost use Prim.Native.Nat.{_+_, _*_, _≤_, _<_};
 ghost use lib.ListN.{length};
 ghost use lib.Seq.{sets};
 ghost use Rattle.pool.specs.Answer.{answerOf, recordsIn};
-ghost use Rattle.pool.specs.Reading.{width, numbers, entryAt, scanOf, least, readOf, roomOf};
-ghost use Rattle.pool.specs.Walk.{countFrom, noted, Lists, ListsIf, Listed};
+ghost use Rattle.pool.specs.Reading.{width, numbers, entryAt, scanOf, readOf};
+ghost use Rattle.pool.specs.Walk.{countFrom, noted, Lists, ListsIf};
 
 // What reading answers: the count of records, or why the pool is refused and where. The refusals stand in the order of their
 // numbers, 1 to 7.
@@ -78,9 +78,10 @@ fn scan(p: &[u8], table: &mut [u16]) -> Outcome
     Outcome::Records(n)
 }
 
-// Whether a pool is read, given how many entries a table has. Its records are listed, as far as the list reaches.
-fn judge_listing(p: &[u8], room: usize, table: &mut [u16]) -> Outcome
-    ensures { λ r. ⌜ (answerOf r ≡ readOf (now (p .entry)) room) × (ListsIf (readOf (now (p .entry)) room .number) (scanOf (now (p .entry))) (now (table .entry)) (now (table .exit))) ⌝ }
+// Whether a pool is read, given how many entries a table has. Its records are listed as numbers, one walk for both; a list
+// that is long enough then starts with them. After a refusal the list is free.
+pub fn list_for(p: &[u8], room: usize, rows: &mut [u16]) -> Outcome
+    ensures { λ r. ⌜ (answerOf r ≡ readOf (now (p .entry)) room) × ListsIf (readOf (now (p .entry)) room .number) (scanOf (now (p .entry))) (now (rows .entry)) (now (rows .exit)) ⌝ }
 {
     if p.len() == 0 {
         return Outcome::Empty;
@@ -88,7 +89,7 @@ fn judge_listing(p: &[u8], room: usize, table: &mut [u16]) -> Outcome
     if 65535 < p.len() {
         return Outcome::TooLong;
     }
-    let walked = scan(p, table);
+    let walked = scan(p, rows);
     match walked {
         Outcome::Records(count) => {
             if 8192 < count {
@@ -103,30 +104,12 @@ fn judge_listing(p: &[u8], room: usize, table: &mut [u16]) -> Outcome
     }
 }
 
-// Lists a pool's records as numbers, for a table of as many entries as the list holds. After a refusal the list is free.
-pub fn list(p: &[u8], table: &mut [u16]) -> Outcome
-    ensures { λ r. ⌜ (answerOf r ≡ readOf (now (p .entry)) (roomOf (now (table .entry)))) × Listed (now (p .entry)) (now (table .entry)) (now (table .exit)) ⌝ }
-{
-    judge_listing(p, table.len() / WIDTH, table)
-}
-
 // Whether a table of so many entries gets a pool, and what is answered: reading but for the table.
 pub fn judge(p: &[u8], room: usize) -> Outcome
     ensures { λ r. ⌜ answerOf r ≡ readOf (now (p .entry)) room ⌝ }
 {
     let mut none = [0u16; 1];
-    judge_listing(p, room, &mut none)
-}
-
-// How many numbers of a list stand for a table of so many entries, where a pool has at most so many records.
-pub fn numbers_for(room: usize, most: u16) -> usize
-    ensures { λ r. ⌜ r ≡ least room most * width ⌝ }
-{
-    let enough = most as usize;
-    if room < enough {
-        return room * WIDTH;
-    }
-    enough * WIDTH
+    list_for(p, room, &mut none)
 }
 
 // The count of records that reading finds, 0 for a refusal.

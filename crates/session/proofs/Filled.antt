@@ -1,4 +1,4 @@
--- The count of entries that activating fills: the table has so many, and filled so far from staging it is the table after activating. Assumes nothing.
+-- The count of entries that activating fills: the table has so many, and gathered so far from rows that list the records it is the table after activating. Assumes nothing.
 use mathlib.Core.Path.{_≡_, refl, sym, ap, ap₂, _∙_}
 use mathlib.Core.Bool.{Bool, true, false, cond}
 use mathlib.Core.List.{List}
@@ -8,50 +8,46 @@ use borrow.Author.Tests.{eqb-true, eqb-false}
 use lib.Dec.{eqb}
 use lib.ListN.{length, take}
 use Rattle.pool.specs.Answer.{Answer, answer}
-use Rattle.pool.specs.Reading.{readOf}
+use Rattle.pool.specs.Reading.{scanOf, readOf}
+use Rattle.pool.specs.Walk.{ListsIf}
 use Rattle.pool.proofs.Judged.{read-counted}
 use Rattle.working_table.specs.declared.Record.{Record}
 use Rattle.working_table.specs.Table.{recordsAfter}
-use Rattle.working_table.specs.Filling.{filled}
-use Rattle.working_table.proofs.Filled.{filled-none, filled-after, filled-part, records-kept}
+use Rattle.working_table.specs.Rows.{gathered}
+use Rattle.working_table.proofs.Gathered.{Enough, Gathers, gathered-none, gathered-after, none-gathers}
 use Rattle.checker.specs.Checking.{countOf}
-use Rattle.session.specs.Calls.{choose, isChecked, activatedRecords, recordsFor}
+use Rattle.session.specs.Calls.{choose, isChecked, activatedRecords}
+use Rattle.session.specs.Rows.{recordsFor, ListsFor}
 use Rattle.session.specs.declared.Session.{Session}
 
-pub record Fills (staging : List ℕ) (n : ℕ) (table after : List Record) : Type 0 where
+pub record Fills (rows : List ℕ) (n : ℕ) (table after : List Record) : Type 0 where
   pub within : n ≤ length table
-  pub same : filled staging n table ≡ after
+  pub same : gathered rows n table ≡ after
 
-module _ (staging : List ℕ) (n : ℕ) (table : List Record) where
-  -- no entry
-  none-filled : (after : List Record) → n ≡ 0 → table ≡ after → Fills staging n table after
-  none-filled after e f = record { within = omega (arith, e); same = ap (λ (m : ℕ). filled staging m table) e ∙ filled-none staging table ∙ f }
-
-  -- as many as reading finds in the pool that staging starts with
-  pool-filled : (k : ℕ) → n ≡ countOf (take k staging) (length table) → Fills staging n table (recordsAfter (take k staging) table)
+module _ (before rows : List ℕ) (n : ℕ) (table : List Record) where
+  -- as many as reading finds in a pool
+  pool-gathers : (p : List ℕ) → Enough p (length before) → n ≡ countOf p (length table) → ListsIf (readOf p (length table) .number) (scanOf p) before rows → Gathers p rows n table
   unfolding countOf
-  pool-filled k e = go (eqb (a .number) 0) refl e
+  pool-gathers p enough e lists = go (eqb (a .number) 0) refl e
     where
-      p : List ℕ
-      p = take k staging
-
       a : Answer
       a = readOf p (length table)
 
-      go : (b : Bool) → eqb (a .number) 0 ≡ b → n ≡ cond b (a .value) 0 → Fills staging n table (recordsAfter p table)
+      go : (b : Bool) → eqb (a .number) 0 ≡ b → n ≡ cond b (a .value) 0 → Gathers p rows n table
       go true h f =
           let read : answer 0 n ≡ a = ap₂ answer (sym (eqb-true (a .number) 0 h)) f in
-          record { within = read-counted p (length table) n read .fits; same = filled-part staging k n (length table) table read ∙ filled-after p n table read }
-      go false h f = none-filled (recordsAfter p table) f (sym (records-kept p table (eqb-false (a .number) 0 h)))
+          record { within = read-counted p (length table) n read .fits; after = gathered-after p before rows n table enough read lists }
+      go false h f = none-gathers p rows n table f (eqb-false (a .number) 0 h)
 
   -- as many as activating fills
-  pub records-filled : (s : Session) (lk : ℕ) → n ≡ recordsFor s staging lk (length table) → Fills staging n table (activatedRecords s staging lk table)
+  pub records-filled : (s : Session) (staging : List ℕ) (lk : ℕ) → Enough (take (s .announced) staging) (length before) → n ≡ recordsFor s staging lk (length table) → ListsFor s staging lk (length table) before rows
+      → Fills rows n table (activatedRecords s staging lk table)
   unfolding recordsFor activatedRecords
-  records-filled s lk e = go (isChecked s (length staging) lk) e
+  records-filled s staging lk enough e lists = go (isChecked s (length staging) lk) refl e
     where
       p : List ℕ
       p = take (s .announced) staging
 
-      go : (b : Bool) → n ≡ choose b (countOf p (length table)) 0 → Fills staging n table (choose b (recordsAfter p table) table)
-      go true f = pool-filled (s .announced) f
-      go false f = none-filled table f refl
+      go : (b : Bool) → isChecked s (length staging) lk ≡ b → n ≡ choose b (countOf p (length table)) 0 → Fills rows n table (choose b (recordsAfter p table) table)
+      go true h f = let g = pool-gathers p enough f (lists h) in record { within = g .within; same = g .after }
+      go false h f = record { within = omega (arith, f); same = ap (λ (m : ℕ). gathered rows m table) f ∙ gathered-none rows table }

@@ -11,7 +11,7 @@ use Rattle.faults.specs.Faults.{Fault, fault}
 use Rattle.rules.specs.Table.{breachesOf}
 use Rattle.working_table.specs.declared.Record.{Record}
 use Rattle.working_table.specs.Table.{recordsAfter}
-use Rattle.checker.specs.Checking.{checkOf, countOf}
+use Rattle.checker.specs.Checking.{checkOf}
 use Rattle.session.specs.Answers.{Reply, reply, faulty, replyOf}
 use Rattle.session.specs.declared.Stage.{Stage}
 use Rattle.session.specs.declared.Stage.the-variants.{Idle, Offered}
@@ -142,10 +142,6 @@ keptAfter s staging kept room =
 
 unfoldable pub activatedRecords : Session → List ℕ → ℕ → List Record → List Record
 activatedRecords s staging lk table = choose (isChecked s (length staging) lk) (recordsAfter (take (s .announced) staging) table) table
-
--- how many entries of a table of so many are filled
-unfoldable pub recordsFor : Session → List ℕ → ℕ → ℕ → ℕ
-recordsFor s staging lk room = choose (isChecked s (length staging) lk) (countOf (take (s .announced) staging) room) 0
 
 unfoldable pub deactivateOf : Session → Told
 deactivateOf s =

@@ -8,7 +8,8 @@ ghost use lib.ListN.{length};
 ghost use lib.Seq.{sets};
 ghost use Rattle.checker.specs.Checking.{verdictOf};
 ghost use Rattle.session.specs.Answers.{reply, replyOf, replyIn};
-ghost use Rattle.session.specs.Calls.{isOffered, newSession, ended, impossible, stepOf, refused, offerOf, transferOf, stagingAfter, keptActivated, settled, keptSettled, activateOf, isChecked, keptAfter, activatedRecords, recordsFor, deactivateOf, deleteOf, lostOf};
+ghost use Rattle.session.specs.Calls.{isOffered, newSession, ended, impossible, stepOf, refused, offerOf, transferOf, stagingAfter, keptActivated, settled, keptSettled, activateOf, isChecked, keptAfter, activatedRecords, deactivateOf, deleteOf, lostOf};
+ghost use Rattle.session.specs.Rows.{recordsFor, ListsFor};
 
 pub enum Stage {
     Idle,
@@ -210,7 +211,7 @@ fn settle(s: Session, p: &[u8], kept: &mut [u8], room: usize) -> Step
     ensures { λ r. ⌜ (stepOf r ≡ settled s (now (p .entry)) room) × (now (kept .exit) ≡ keptSettled (now (p .entry)) room (now (kept .entry))) ⌝ }
 {
     let mut first = [0u16; 3];
-    let verdict = checker::check(p, room, &mut first);
+    let verdict = checker::check_for(p, room, &mut first);
     let number = checker::number_of(verdict);
     if number == 7 {
         return refuse(s, unread(verdict));
@@ -277,24 +278,27 @@ fn is_checked(s: Session, staging: usize, kept: usize) -> bool
     !((staging < s.announced) | (kept < s.announced))
 }
 
-// How many entries activating fills of a table of so many: none where no pool is checked.
-fn records_for(s: Session, staging: &[u8], kept: usize, room: usize) -> usize
-    ensures { λ r. ⌜ r ≡ recordsFor s (now (staging .entry)) kept room ⌝ }
+// Lists the records of the pool that is checked as rows of numbers, for a table of so many entries: how many of its entries
+// activating fills, none where no pool is checked.
+fn rows_for(s: Session, staging: &[u8], kept: usize, room: usize, rows: &mut [u16]) -> usize
+    ensures { λ r. ⌜ (r ≡ recordsFor s (now (staging .entry)) kept room) × ListsFor s (now (staging .entry)) kept room (now (rows .entry)) (now (rows .exit)) ⌝ }
 {
     if !is_checked(s, staging.len(), kept) {
         return 0;
     }
     let announced = s.announced;
-    pool::records_of(pool::judge(&staging[..announced], room))
+    pool::records_of(pool::list_for(&staging[..announced], room, rows))
 }
 
-// Activates the pool that is offered, or else the one that is kept. The table is filled where a pool is checked and read.
+// Activates the pool that is offered, or else the one that is kept. The table is filled where a pool is checked and read. A record
+// has at least 12 bytes: the rows reach for every pool.
 pub fn activate(s: Session, staging: &[u8], kept: &mut [u8], table: &mut [Record]) -> Step
     ensures { λ r. ⌜ (stepOf r ≡ activateOf s (now (staging .entry)) (length (now (kept .entry))) (length (now (table .entry)))) × (now (kept .exit) ≡ keptAfter s (now (staging .entry)) (now (kept .entry)) (length (now (table .entry)))) × (now (table .exit) ≡ activatedRecords s (now (staging .entry)) (length (now (kept .entry))) (now (table .entry))) ⌝ }
 {
+    let mut rows = [0u16; 21844];
     let room = table.len();
-    let count = records_for(s, staging, kept.len(), room);
-    working_table::fill(staging, count, table);
+    let count = rows_for(s, staging, kept.len(), room, &mut rows);
+    working_table::gather(&rows, count, table);
     activate_in(s, staging, kept, room)
 }
 

@@ -33,7 +33,7 @@ fn give_outcome(outcome: Outcome, value: &mut usize) -> u32
 pub extern "C" fn lachsbrille_read(p: &[u8], table: &mut [Record], value: &mut usize) -> u32
     ensures { λ r. ⌜ Says (readOf (now (p .entry)) (length (now (table .entry)))) r (now (value .exit)) × (now (table .exit) ≡ recordsAfter (now (p .entry)) (now (table .entry))) ⌝ }
 {
-    let outcome = device_pool::read(p, table);
+    let outcome = working_table::read(p, table);
     give_outcome(outcome, value)
 }
 
@@ -54,7 +54,7 @@ pub extern "C" fn lachsbrille_check(
 ) -> u32
     ensures { λ r. ⌜ Says (checkOf (now (p .entry)) (length (now (table .entry)))) r (now (value .exit)) × (now (table .exit) ≡ recordsAfter (now (p .entry)) (now (table .entry))) × (now (faults .exit) ≡ faultsAfter (now (p .entry)) (length (now (table .entry))) (now (faults .entry))) ⌝ }
 {
-    let verdict = device_pool::check(p, table, faults);
+    let verdict = checker::check(p, table, faults);
     give_verdict(verdict, value)
 }
 

@@ -3,7 +3,8 @@ pub mod Rec
 pub mod Loop
 pub mod Again
 pub mod Local
-pub mod Prefix
-pub mod Filled
-pub mod Filling
 pub mod Rows
+pub mod Gathered
+pub mod Gathering
+pub mod Reading
+pub mod Sizes

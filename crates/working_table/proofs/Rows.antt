@@ -8,7 +8,7 @@ use borrow.Author.Tests.{lt-ltb, le-ltb}
 use lib.ListN.{length, getD}
 use lib.Seq.{sets, length-sets}
 use Rattle.working_table.specs.declared.Record.{Record}
-use Rattle.working_table.specs.Filling.{blank}
+use Rattle.working_table.specs.Table.{blank}
 use Rattle.working_table.specs.Rows.{rowAfter, spreadOver}
 
 -- an entry's four numbers

@@ -1,4 +1,3 @@
 -- What the contracts of `working_table` cite, in the order to read it.
 pub mod Table
-pub mod Filling
 pub mod Rows

@@ -1,16 +1,23 @@
 -- The working table as a list of records: document 01, "Reading a pool". Definitions only.
 use Prim.Native.Nat.{ℕ}
+use mathlib.Core.Path.{_≡_}
 use mathlib.Core.Bool.{Bool, true, false}
 use mathlib.Core.List.{List, map}
 use lib.Dec.{eqb}
 use lib.ListN.{length}
 use lib.Seq.{sets}
+use Rattle.pool.specs.Answer.{answerOf}
 use Rattle.pool.specs.Reading.{Entry, scanOf, entriesIn, readOf}
+use Rattle.pool.specs.declared.Outcome.{Outcome}
 use Rattle.working_table.specs.declared.Record.{Record}
 
 -- an entry of a pool's division as an element of the table: start, length, kind and ID
 abbrev pub recordOf : Entry → Record
 recordOf e = record { start = e .start; length = e .size; kind = e .kind; id = e .id }
+
+-- a record of zeros, which stands for what lies past a table's end
+abbrev pub blank : Record
+blank = record { start = 0; length = 0; kind = 0; id = 0 }
 
 abbrev pub pickRecords : Bool → List Record → List Record → List Record
 pickRecords true a b = a
@@ -20,3 +27,7 @@ pickRecords false a b = b
 -- unchanged. It has room for as many records as it has entries
 unfoldable pub recordsAfter : List ℕ → List Record → List Record
 recordsAfter p table = pickRecords (eqb (readOf p (length table) .number) 0) (sets table 0 (map recordOf (entriesIn (scanOf p)))) table
+
+-- what reading answers, and the table before and after it
+abbrev pub Reads : List ℕ → Outcome → List Record → List Record → Type 0
+Reads p r before after = (answerOf r ≡ readOf p (length before)) × (after ≡ recordsAfter p before)

@@ -1,39 +1,24 @@
--- `checker::check_middle` meets its contract. Assumes nothing.
+-- `checker::check_middle` meets its contract: its list reaches for every record of such a pool. Assumes nothing.
+use mathlib.Core.Path.{sym}
+use Prim.Native.Nat.{ℕ}
 use native.Mathlib.Omega.{arith}
 use borrow.Author.Needs.{needs}
-use lib.ListN.{take}
-use Rattle.pool.proofs.Within.{zeros, numbers-below, numbers-taken, room-taken}
-use Rattle.checker.proofs.Rooms.{within}
+use lib.ListN.{length-replicate}
+use Rattle.checker.proofs.Lists.{reaches}
 use Rattle.checker.proofs.check_middle.Statement.{statement}
 use Rattle.checker.proofs.check_middle.Tie as tie
 
-numbers-for-requires : tie.Need-numbers-for-requires
-numbers-for-requires c κs = search needs
-
-array-borrow-prefix-list : tie.Need-array-borrow-prefix-list
-array-borrow-prefix-list c = numbers-below _ (c .before .before .before .args .room) 1024 4096 (c .numbers-for .ensures) (omega arith)
-
 slice-aggregate-check-by : tie.Need-slice-aggregate-check-by
-slice-aggregate-check-by c = numbers-taken (c .before .numbers-for .result) (c .before .before .before .before .args .room) 1024 4096 (c .before .numbers-for .ensures) (omega arith)
+slice-aggregate-check-by c = sym (length-replicate {A = ℕ} 4096 0)
 
 check-by-requires : tie.Need-check-by-requires
-check-by-requires c κs = search needs
+check-by-requires c κs = reaches 4096 (c .before .before .before .before .args .p .now) (λ z. omega (arith, c .before .before .before .before .pre))
 
 same-length : tie.Need-same-length
 same-length c = search needs
 
 returns : tie.Need-returns
-returns c =
-    let a = c .before .before .before .before .before .before .before .before .before .args in
-    within (a .p .now) (a .room) 1024 (λ z. omega (arith, c .before .before .before .before .before .before .before .before .before .pre)) (take (c .before .before .before .before .before .before .numbers-for .result) (zeros 4096)) (a .faults .now) _ _ (c .before .before .before .check-by .result) (room-taken _ (a .room) 1024 4096 (c .before .before .before .before .before .before .numbers-for .ensures) (omega arith)) (c .before .before .before .check-by .ensures)
+returns c = let e = c .before .before .before .check-by .ensures in (e .0, e .1, e .3)
 
 pub check-middle-spec : {M : Type 1} → statement M
-check-middle-spec =
-    tie.close
-    (tie.spec
-    numbers-for-requires
-    array-borrow-prefix-list
-    slice-aggregate-check-by
-    check-by-requires
-    same-length
-    returns)
+check-middle-spec = tie.close (tie.spec slice-aggregate-check-by check-by-requires same-length returns)

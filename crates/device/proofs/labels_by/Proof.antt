@@ -1,10 +1,9 @@
 -- `device::labels_by` meets its contract: an accepted pool has a device. Assumes nothing.
 use mathlib.Core.Path.{_≡_, sym, _∙_}
 use native.Mathlib.Omega.{arith}
-use Rattle.pool.specs.Reading.{roomOf}
 use Rattle.checker.specs.Checking.{verdictOf}
 use Rattle.device.specs.Parts.{columnIn}
-use Rattle.device.proofs.Asked.{refused-as, labels-refused, may-look, in-table, device-there, device-short, labels-found}
+use Rattle.device.proofs.Asked.{refused-as, labels-refused, may-look, in-rows, device-there, device-short, labels-found}
 use borrow.Author.Needs.{needs}
 use Rattle.device.proofs.labels_by.Statement.{statement}
 use Rattle.device.proofs.labels_by.Tie as tie
@@ -22,19 +21,33 @@ same-length : tie.Need-same-length
 same-length c = search needs
 
 returns : tie.Need-returns
-returns c = let r = labels-refused (c .before .before .before .before .before .before .before .before .before .before .args .p .now) (roomOf (c .before .before .before .before .before .before .before .before .before .before .args .table .now)) (c .before .refusal .result) (refused-as (c .before .before .before .before .before .before .before .before .before .before .args .p .now) (roomOf (c .before .before .before .before .before .before .before .before .before .before .args .table .now)) (verdictOf (c .before .before .before .before .before .check-by .result)) (c .before .refusal .result) (c .before .refusal .ensures) (c .before .before .before .before .before .check-by .ensures .0)) (c .if1 .taken) in record { number = refused-as (c .before .before .before .before .before .before .before .before .before .before .args .p .now) (roomOf (c .before .before .before .before .before .before .before .before .before .before .args .table .now)) (verdictOf (c .before .before .before .before .before .check-by .result)) (c .before .refusal .result) (c .before .refusal .ensures) (c .before .before .before .before .before .check-by .ensures .0); structure = r .0; localization = r .1; extended = r .2; count = r .3 }
+returns c =
+    let a = c .before .before .before .before .before .before .before .before .before .before .args in
+    let k = c .before .before .before .before .before .check-by in
+    let refused = refused-as (a .p .now) (a .room) (verdictOf (k .result)) (c .before .refusal .result) (c .before .refusal .ensures) (k .ensures .0) in
+    let r = labels-refused (a .p .now) (a .room) (c .before .refusal .result) refused (c .if1 .taken) in
+    record { number = refused; structure = r .0; localization = r .1; extended = r .2; count = r .3 }
 
 records-of-requires : tie.Need-records-of-requires
 records-of-requires c κs = search needs
 
 first-with-requires : tie.Need-first-with-requires
-first-with-requires c κs = let m = may-look (c .before .before .before .before .before .before .before .before .before .before .before .before .args .p .now) (c .before .before .before .before .before .before .before .before .before .before .before .before .args .table .now) (c .before .before .before .before .before .before .before .check-by .last .1 .0) (c .records-of .result) (sym (c .before .before .if1 .left) ∙ refused-as (c .before .before .before .before .before .before .before .before .before .before .before .before .args .p .now) (roomOf (c .before .before .before .before .before .before .before .before .before .before .before .before .args .table .now)) (verdictOf (c .before .before .before .before .before .before .before .check-by .result)) (c .before .before .before .refusal .result) (c .before .before .before .refusal .ensures) (c .before .before .before .before .before .before .before .check-by .ensures .0)) (c .records-of .ensures ∙ c .before .before .before .before .before .before .before .check-by .ensures .1) (c .before .before .before .before .before .before .before .check-by .ensures .2) in (m .0, m .1, omega arith)
+first-with-requires c κs =
+    let a = c .before .before .before .before .before .before .before .before .before .before .before .before .args in
+    let k = c .before .before .before .before .before .before .before .check-by in
+    let refused = refused-as (a .p .now) (a .room) (verdictOf (k .result)) (c .before .before .before .refusal .result) (c .before .before .before .refusal .ensures) (k .ensures .0) in
+    let m = may-look (a .p .now) (a .room) (a .rows .now) (k .last .1 .1 .0) (c .records-of .result) (c .before .before .before .before .before .before .before .before .before .before .before .before .pre) (sym (c .before .before .if1 .left) ∙ refused) (c .records-of .ensures ∙ k .ensures .1) (k .ensures .2) in
+    (m .0, m .1, omega arith)
 
 cast-record : tie.Need-cast-record
 cast-record c = search needs
 
 sub-labels-at : tie.Need-sub-labels-at
-sub-labels-at c = let z : (c .first-with .result ≡ 0 → ⊥) = device-there (c .before .before .before .before .before .before .before .before .before .before .before .before .before .args .p .now) (c .before .before .before .before .before .before .before .before .before .before .before .before .before .args .table .now) (c .before .before .before .before .before .before .before .before .check-by .last .1 .0) (c .before .records-of .result) (sym (c .before .before .before .if1 .left) ∙ refused-as (c .before .before .before .before .before .before .before .before .before .before .before .before .before .args .p .now) (roomOf (c .before .before .before .before .before .before .before .before .before .before .before .before .before .args .table .now)) (verdictOf (c .before .before .before .before .before .before .before .before .check-by .result)) (c .before .before .before .before .refusal .result) (c .before .before .before .before .refusal .ensures) (c .before .before .before .before .before .before .before .before .check-by .ensures .0)) (c .before .records-of .ensures ∙ c .before .before .before .before .before .before .before .before .check-by .ensures .1) (c .before .before .before .before .before .before .before .before .check-by .ensures .2) (c .first-with .result) (c .first-with .ensures) in omega arith
+sub-labels-at c =
+    let a = c .before .before .before .before .before .before .before .before .before .before .before .before .before .args in
+    let k = c .before .before .before .before .before .before .before .before .check-by in
+    let refused = refused-as (a .p .now) (a .room) (verdictOf (k .result)) (c .before .before .before .before .refusal .result) (c .before .before .before .before .refusal .ensures) (k .ensures .0) in
+    let z : (c .first-with .result ≡ 0 → ⊥) = device-there (a .p .now) (a .room) (a .rows .now) (k .last .1 .1 .0) (c .before .records-of .result) (c .before .before .before .before .before .before .before .before .before .before .before .before .before .pre) (sym (c .before .before .before .if1 .left) ∙ refused) (c .before .records-of .ensures ∙ k .ensures .1) (k .ensures .2) (c .first-with .result) (c .first-with .ensures) in omega arith
 
 mul-labels-at : tie.Need-mul-labels-at
 mul-labels-at c = search needs
@@ -43,16 +56,28 @@ mul-labels-at-2 : tie.Need-mul-labels-at-2
 mul-labels-at-2 c = search needs
 
 slice-read-labels-at : tie.Need-slice-read-labels-at
-slice-read-labels-at c = omega (arith, in-table (c .before .before .before .before .before .before .before .before .before .before .before .before .before .before .args .p .now) (c .before .before .before .before .before .before .before .before .before .before .before .before .before .before .args .table .now) (c .before .before .before .before .before .before .before .before .before .check-by .last .1 .0) (c .before .before .records-of .result) (sym (c .before .before .before .before .if1 .left) ∙ refused-as (c .before .before .before .before .before .before .before .before .before .before .before .before .before .before .args .p .now) (roomOf (c .before .before .before .before .before .before .before .before .before .before .before .before .before .before .args .table .now)) (verdictOf (c .before .before .before .before .before .before .before .before .before .check-by .result)) (c .before .before .before .before .before .refusal .result) (c .before .before .before .before .before .refusal .ensures) (c .before .before .before .before .before .before .before .before .before .check-by .ensures .0)) (c .before .before .records-of .ensures ∙ c .before .before .before .before .before .before .before .before .before .check-by .ensures .1) (c .before .before .before .before .before .before .before .before .before .check-by .ensures .2) (columnIn (c .before .before .before .before .before .before .before .before .before .check-by .last .1 .0) 2) 1 (c .before .first-with .result) (c .before .first-with .ensures) (device-there (c .before .before .before .before .before .before .before .before .before .before .before .before .before .before .args .p .now) (c .before .before .before .before .before .before .before .before .before .before .before .before .before .before .args .table .now) (c .before .before .before .before .before .before .before .before .before .check-by .last .1 .0) (c .before .before .records-of .result) (sym (c .before .before .before .before .if1 .left) ∙ refused-as (c .before .before .before .before .before .before .before .before .before .before .before .before .before .before .args .p .now) (roomOf (c .before .before .before .before .before .before .before .before .before .before .before .before .before .before .args .table .now)) (verdictOf (c .before .before .before .before .before .before .before .before .before .check-by .result)) (c .before .before .before .before .before .refusal .result) (c .before .before .before .before .before .refusal .ensures) (c .before .before .before .before .before .before .before .before .before .check-by .ensures .0)) (c .before .before .records-of .ensures ∙ c .before .before .before .before .before .before .before .before .before .check-by .ensures .1) (c .before .before .before .before .before .before .before .before .before .check-by .ensures .2) (c .before .first-with .result) (c .before .first-with .ensures)))
+slice-read-labels-at c =
+    let a = c .before .before .before .before .before .before .before .before .before .before .before .before .before .before .args in
+    let k = c .before .before .before .before .before .before .before .before .before .check-by in
+    let refused = refused-as (a .p .now) (a .room) (verdictOf (k .result)) (c .before .before .before .before .before .refusal .result) (c .before .before .before .before .before .refusal .ensures) (k .ensures .0) in
+    omega (arith, in-rows (a .p .now) (a .room) (a .rows .now) (k .last .1 .1 .0) (c .before .before .records-of .result) (c .before .before .before .before .before .before .before .before .before .before .before .before .before .before .pre) (sym (c .before .before .before .before .if1 .left) ∙ refused) (c .before .before .records-of .ensures ∙ k .ensures .1) (k .ensures .2) (columnIn (k .last .1 .1 .0) 2) 1 (c .before .first-with .result) (c .before .first-with .ensures) (device-there (a .p .now) (a .room) (a .rows .now) (k .last .1 .1 .0) (c .before .before .records-of .result) (c .before .before .before .before .before .before .before .before .before .before .before .before .before .before .pre) (sym (c .before .before .before .before .if1 .left) ∙ refused) (c .before .before .records-of .ensures ∙ k .ensures .1) (k .ensures .2) (c .before .first-with .result) (c .before .first-with .ensures)))
 
 labels-at-requires : tie.Need-labels-at-requires
-labels-at-requires c κs = device-short (c .before .before .before .before .before .before .before .before .before .before .before .before .before .before .args .p .now) (c .before .before .before .before .before .before .before .before .before .before .before .before .before .before .args .table .now) (c .before .before .before .before .before .before .before .before .before .check-by .last .1 .0) (c .before .before .records-of .result) (sym (c .before .before .before .before .if1 .left) ∙ refused-as (c .before .before .before .before .before .before .before .before .before .before .before .before .before .before .args .p .now) (roomOf (c .before .before .before .before .before .before .before .before .before .before .before .before .before .before .args .table .now)) (verdictOf (c .before .before .before .before .before .before .before .before .before .check-by .result)) (c .before .before .before .before .before .refusal .result) (c .before .before .before .before .before .refusal .ensures) (c .before .before .before .before .before .before .before .before .before .check-by .ensures .0)) (c .before .before .records-of .ensures ∙ c .before .before .before .before .before .before .before .before .before .check-by .ensures .1) (c .before .before .before .before .before .before .before .before .before .check-by .ensures .2) (c .before .first-with .result) (c .before .first-with .ensures)
+labels-at-requires c κs =
+    let a = c .before .before .before .before .before .before .before .before .before .before .before .before .before .before .args in
+    let k = c .before .before .before .before .before .before .before .before .before .check-by in
+    let refused = refused-as (a .p .now) (a .room) (verdictOf (k .result)) (c .before .before .before .before .before .refusal .result) (c .before .before .before .before .before .refusal .ensures) (k .ensures .0) in
+    device-short (a .p .now) (a .room) (a .rows .now) (k .last .1 .1 .0) (c .before .before .records-of .result) (c .before .before .before .before .before .before .before .before .before .before .before .before .before .before .pre) (sym (c .before .before .before .before .if1 .left) ∙ refused) (c .before .before .records-of .ensures ∙ k .ensures .1) (k .ensures .2) (c .before .first-with .result) (c .before .first-with .ensures)
 
 same-length-2 : tie.Need-same-length-2
 same-length-2 c = search needs
 
 returns-2 : tie.Need-returns-2
-returns-2 c = labels-found (c .before .before .before .before .before .before .before .before .before .before .before .before .before .before .before .args .p .now) (c .before .before .before .before .before .before .before .before .before .before .before .before .before .before .before .args .table .now) (c .before .before .before .before .before .before .before .before .before .before .check-by .last .1 .0) (c .before .before .before .records-of .result) (sym (c .before .before .before .before .before .if1 .left) ∙ refused-as (c .before .before .before .before .before .before .before .before .before .before .before .before .before .before .before .args .p .now) (roomOf (c .before .before .before .before .before .before .before .before .before .before .before .before .before .before .before .args .table .now)) (verdictOf (c .before .before .before .before .before .before .before .before .before .before .check-by .result)) (c .before .before .before .before .before .before .refusal .result) (c .before .before .before .before .before .before .refusal .ensures) (c .before .before .before .before .before .before .before .before .before .before .check-by .ensures .0)) (c .before .before .before .records-of .ensures ∙ c .before .before .before .before .before .before .before .before .before .before .check-by .ensures .1) (c .before .before .before .before .before .before .before .before .before .before .check-by .ensures .2) (c .before .before .first-with .result) (c .before .before .first-with .ensures) (c .labels-at .result) (c .labels-at .ensures)
+returns-2 c =
+    let a = c .before .before .before .before .before .before .before .before .before .before .before .before .before .before .before .args in
+    let k = c .before .before .before .before .before .before .before .before .before .before .check-by in
+    let refused = refused-as (a .p .now) (a .room) (verdictOf (k .result)) (c .before .before .before .before .before .before .refusal .result) (c .before .before .before .before .before .before .refusal .ensures) (k .ensures .0) in
+    labels-found (a .p .now) (a .room) (a .rows .now) (k .last .1 .1 .0) (c .before .before .before .records-of .result) (c .before .before .before .before .before .before .before .before .before .before .before .before .before .before .before .pre) (sym (c .before .before .before .before .before .if1 .left) ∙ refused) (c .before .before .before .records-of .ensures ∙ k .ensures .1) (k .ensures .2) (c .before .before .first-with .result) (c .before .before .first-with .ensures) (c .labels-at .result) (c .labels-at .ensures)
 
 pub labels-by-spec : {M : Type 1} → statement M
 labels-by-spec =

@@ -2,7 +2,6 @@
 use mathlib.Core.Path.{sym, _∙_}
 use mir.Syntax.{w32}
 use mir.ValLaws.{toZ-ofZ}
-use Rattle.pool.specs.Reading.{roomOf}
 use Rattle.checker.specs.Checking.{verdictOf}
 use Rattle.device.proofs.Asked.{refused-as, may-look, shows}
 use Rattle.judging.proofs.Erring.{too-large, not-accepted, judged}
@@ -11,7 +10,9 @@ use Rattle.judging.proofs.judge_by.Statement.{statement}
 use Rattle.judging.proofs.judge_by.Tie as tie
 
 returns : tie.Need-returns
-returns c = too-large (c .before .before .before .args .p .now) (c .before .before .before .args .table .now) (c .before .before .before .args .command) (c .before .before .before .args .element) (c .before .before .before .args .ddi) (c .before .before .before .args .value) (c .if1 .taken)
+returns c =
+    let a = c .before .before .before .args in
+    too-large (a .p .now) (a .room) (a .command) (a .element) (a .ddi) (a .value) (c .if1 .taken)
 
 slice-aggregate-check-by : tie.Need-slice-aggregate-check-by
 slice-aggregate-check-by c = search needs
@@ -26,19 +27,31 @@ same-length : tie.Need-same-length
 same-length c = search needs
 
 returns-2 : tie.Need-returns-2
-returns-2 c = not-accepted (c .before .before .before .before .before .before .before .before .before .before .before .args .p .now) (c .before .before .before .before .before .before .before .before .before .before .before .args .table .now) (c .before .before .before .before .before .before .before .before .before .before .before .args .command) (c .before .before .before .before .before .before .before .before .before .before .before .args .element) (c .before .before .before .before .before .before .before .before .before .before .before .args .ddi) (c .before .before .before .before .before .before .before .before .before .before .before .args .value) (c .before .before .before .before .before .before .before .before .if1 .left) (c .before .refusal .result) (refused-as (c .before .before .before .before .before .before .before .before .before .before .before .args .p .now) (roomOf (c .before .before .before .before .before .before .before .before .before .before .before .args .table .now)) (verdictOf (c .before .before .before .before .before .check-by .result)) (c .before .refusal .result) (c .before .refusal .ensures) (c .before .before .before .before .before .check-by .ensures .0)) (c .before .before .before .before .before .check-by .last .1 .0) (c .if2 .taken)
+returns-2 c =
+    let a = c .before .before .before .before .before .before .before .before .before .before .before .args in
+    let k = c .before .before .before .before .before .check-by in
+    let refused = refused-as (a .p .now) (a .room) (verdictOf (k .result)) (c .before .refusal .result) (c .before .refusal .ensures) (k .ensures .0) in
+    not-accepted (a .p .now) (a .room) (a .command) (a .element) (a .ddi) (a .value) (c .before .before .before .before .before .before .before .before .if1 .left) (c .before .refusal .result) refused (k .last .1 .1 .0) (c .if2 .taken)
 
 records-of-requires : tie.Need-records-of-requires
 records-of-requires c κs = search needs
 
 error-in-requires : tie.Need-error-in-requires
-error-in-requires c κs = may-look (c .before .before .before .before .before .before .before .before .before .before .before .before .before .args .p .now) (c .before .before .before .before .before .before .before .before .before .before .before .before .before .args .table .now) (c .before .before .before .before .before .before .before .check-by .last .1 .0) (c .before .records-of .result) (sym (c .before .before .if2 .left) ∙ refused-as (c .before .before .before .before .before .before .before .before .before .before .before .before .before .args .p .now) (roomOf (c .before .before .before .before .before .before .before .before .before .before .before .before .before .args .table .now)) (verdictOf (c .before .before .before .before .before .before .before .check-by .result)) (c .before .before .before .refusal .result) (c .before .before .before .refusal .ensures) (c .before .before .before .before .before .before .before .check-by .ensures .0)) (c .before .records-of .ensures ∙ c .before .before .before .before .before .before .before .check-by .ensures .1) (c .before .before .before .before .before .before .before .check-by .ensures .2)
+error-in-requires c κs =
+    let a = c .before .before .before .before .before .before .before .before .before .before .before .before .before .args in
+    let k = c .before .before .before .before .before .before .before .check-by in
+    let refused = refused-as (a .p .now) (a .room) (verdictOf (k .result)) (c .before .before .before .refusal .result) (c .before .before .before .refusal .ensures) (k .ensures .0) in
+    may-look (a .p .now) (a .room) (a .rows .now) (k .last .1 .1 .0) (c .before .records-of .result) (c .before .before .before .before .before .before .before .before .before .before .before .before .before .pre) (sym (c .before .before .if2 .left) ∙ refused) (c .before .records-of .ensures ∙ k .ensures .1) (k .ensures .2)
 
 same-length-2 : tie.Need-same-length-2
 same-length-2 c = search needs
 
 returns-3 : tie.Need-returns-3
-returns-3 c = let refused = refused-as (c .before .before .before .before .before .before .before .before .before .before .before .before .before .before .args .p .now) (roomOf (c .before .before .before .before .before .before .before .before .before .before .before .before .before .before .args .table .now)) (verdictOf (c .before .before .before .before .before .before .before .before .check-by .result)) (c .before .before .before .before .refusal .result) (c .before .before .before .before .refusal .ensures) (c .before .before .before .before .before .before .before .before .check-by .ensures .0) in judged (c .before .before .before .before .before .before .before .before .before .before .before .before .before .before .args .p .now) (c .before .before .before .before .before .before .before .before .before .before .before .before .before .before .args .table .now) (c .before .before .before .before .before .before .before .before .before .before .before .before .before .before .args .command) (c .before .before .before .before .before .before .before .before .before .before .before .before .before .before .args .element) (c .before .before .before .before .before .before .before .before .before .before .before .before .before .before .args .ddi) (c .before .before .before .before .before .before .before .before .before .before .before .before .before .before .args .value) (c .before .before .before .before .before .before .before .before .before .before .before .if1 .left) (c .before .before .before .before .refusal .result) refused (c .before .before .before .before .before .before .before .before .check-by .last .1 .0) (c .before .before .before .if2 .left) (c .before .before .records-of .result) (c .error-in .result) (rw (toZ-ofZ w32 (c .before .before .before .before .before .before .before .before .before .before .before .before .before .before .args .value) (c .before .before .before .before .before .before .before .before .before .before .before .before .before .before .fits .value)) at (c .error-in .ensures)) (shows (c .before .before .before .before .before .before .before .before .before .before .before .before .before .before .args .p .now) (c .before .before .before .before .before .before .before .before .before .before .before .before .before .before .args .table .now) (c .before .before .before .before .before .before .before .before .check-by .last .1 .0) (c .before .before .records-of .result) (sym (c .before .before .before .if2 .left) ∙ refused) (c .before .before .records-of .ensures ∙ c .before .before .before .before .before .before .before .before .check-by .ensures .1) (c .before .before .before .before .before .before .before .before .check-by .ensures .2))
+returns-3 c =
+    let a = c .before .before .before .before .before .before .before .before .before .before .before .before .before .before .args in
+    let k = c .before .before .before .before .before .before .before .before .check-by in
+    let refused = refused-as (a .p .now) (a .room) (verdictOf (k .result)) (c .before .before .before .before .refusal .result) (c .before .before .before .before .refusal .ensures) (k .ensures .0) in
+    judged (a .p .now) (a .room) (a .command) (a .element) (a .ddi) (a .value) (c .before .before .before .before .before .before .before .before .before .before .before .if1 .left) (c .before .before .before .before .refusal .result) refused (k .last .1 .1 .0) (c .before .before .before .if2 .left) (c .before .before .records-of .result) (c .error-in .result) (rw (toZ-ofZ w32 (a .value) (c .before .before .before .before .before .before .before .before .before .before .before .before .before .before .fits .value)) at (c .error-in .ensures)) (shows (a .p .now) (a .room) (a .rows .now) (k .last .1 .1 .0) (c .before .before .records-of .result) (c .before .before .before .before .before .before .before .before .before .before .before .before .before .before .pre) (sym (c .before .before .before .if2 .left) ∙ refused) (c .before .before .records-of .ensures ∙ k .ensures .1) (k .ensures .2))
 
 pub judge-by-spec : {M : Type 1} → statement M
 judge-by-spec =

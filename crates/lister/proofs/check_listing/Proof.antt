@@ -1,4 +1,4 @@
--- `lister::check_listing` meets its contract: a walk of its MIR, by hand. The local table is lent by `&mut`, as a slice, to `device_pool::check` for a lifetime that is made for the call, and comes back filled; it is lent by `&` to `spread`. The faults go to the first call for good, and the rows to the second.
+-- `lister::check_listing` meets its contract: a walk of its MIR, by hand. The local table is lent by `&mut`, as a slice, to `checker::check` for a lifetime that is made for the call, and comes back filled; it is lent by `&` to `spread`. The faults go to the first call for good, and the rows to the second.
 -- All that the proof knows of the two is that they meet their contracts. The signature is plain: whoever calls this needs no walk.
 -- Assumes nothing.
 use mathlib.Core.Path.{_≡_, refl, sym, _∙_, ap, ap₂, subst}
@@ -54,8 +54,7 @@ use Rattle.checker.specs.declared.Verdict.{Verdict}
 use Rattle.checker.proofs.Verdict as S
 use Rattle.checker.proofs.Verdict.Laws as S′
 use Rattle.working_table.specs.declared.Record.{Record}
-use Rattle.working_table.specs.Filling.{blank}
-use Rattle.working_table.specs.Table.{recordsAfter}
+use Rattle.working_table.specs.Table.{blank, recordsAfter}
 use Rattle.working_table.specs.Rows.{spreadOver}
 use Rattle.working_table.proofs.Record as T
 use Rattle.working_table.proofs.Record.Laws as T′
@@ -65,10 +64,10 @@ use Rattle.working_table.proofs.spread as spread
 use Rattle.working_table.proofs.spread.Symbol as spread-def
 use Rattle.working_table.proofs.spread.Symbol.{name as #spread}
 use Rattle.working_table.proofs.spread.Met as spread-thm
-use Rattle.device_pool.proofs.check as check
-use Rattle.device_pool.proofs.check.Symbol as check-def
-use Rattle.device_pool.proofs.check.Symbol.{name as #check}
-use Rattle.device_pool.proofs.check.Met as check-thm
+use Rattle.checker.proofs.check as check
+use Rattle.checker.proofs.check.Symbol as check-def
+use Rattle.checker.proofs.check.Symbol.{name as #check}
+use Rattle.checker.proofs.check.Met as check-thm
 use Rattle.lister.proofs.check_listing.Key.{name as #check-listing}
 use Rattle.lister.proofs.check_listing as check-listing
 use Rattle.lister.proofs.check_listing.Statement as stated
@@ -273,5 +272,5 @@ check-listing-spec 𝓤 H 𝓜 𝓖 𝓡 =
     entered 𝓤 H (tripleOf 𝓤 H (𝓖 .A) check-listing.signature (check-listing.spec 𝓤 H (𝓖 .A) (𝓜 .mem) (𝓡 .run)))
     (tables 𝓤 H 𝓜 𝓡 code.env .C) (tables 𝓤 H 𝓜 𝓡 code.env .Λ) #check-listing code.function (code.unfolded 𝓤 H 𝓜 𝓡)
     (check-listing-meets 𝓤 H (𝓖 .A) (givenOf 𝓤 H 𝓜 𝓖) (𝓜 .mem) (𝓡 .run) (tablesOf 𝓤 H 𝓜 (tables 𝓤 H 𝓜 𝓡 code.env))
-    (cited 𝓤 H (Check 𝓤 H (𝓖 .A) (𝓜 .mem) (𝓡 .run)) 𝓜 𝓡 code.env #check check-def.routine code.calls-device-pool·check (check-thm.met 𝓤 H 𝓜 𝓖 𝓡))
+    (cited 𝓤 H (Check 𝓤 H (𝓖 .A) (𝓜 .mem) (𝓡 .run)) 𝓜 𝓡 code.env #check check-def.routine code.calls-checker·check (check-thm.met 𝓤 H 𝓜 𝓖 𝓡))
     (cited 𝓤 H (Spread 𝓤 H (𝓖 .A) (𝓜 .mem) (𝓡 .run)) 𝓜 𝓡 code.env #spread spread-def.routine code.calls-working-table·spread (spread-thm.met 𝓤 H 𝓜 𝓖 𝓡)))

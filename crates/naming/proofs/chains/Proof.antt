@@ -8,7 +8,7 @@ use Rattle.naming.specs.Naming.{parentOf}
 use Rattle.naming.specs.Lists.{shown}
 use Rattle.naming.specs.Steps.{Climbs}
 use Rattle.naming.proofs.Climb.{parent-zero}
-use Rattle.naming.proofs.Jumping.{climbs-zero, climbs-within, climbed-ends, none-left}
+use Rattle.naming.proofs.Jumping.{climbs-zero, climbs-within, climbed-ends, none-left, closed-ends}
 use Rattle.naming.proofs.chains.Statement.{statement}
 use Rattle.naming.proofs.chains.Tie as tie
 
@@ -47,7 +47,8 @@ returns-2 c =
     let l = c .before .before .before .before .before .before .loop in
     let es = shown (a .table .now) (a .count) in
     let more = c .before .before .before .jump .ensures .0 (parentOf (a .p .now) es) (l .steps) (parent-zero (a .p .now) es) (l .inv .2) in
-    none-left (a .p .now) (a .table .now) (a .count) (l .steps + l .steps) (c .before .before .before .jump .last .0) more (c .before .before .before .jump .ensures .1 (not-true (c .before .before .before .jump .result) (c .if2 .taken)))
+    let shut = c .before .before .before .jump .ensures .1 (not-true (c .before .before .before .jump .result) (c .if2 .taken)) in
+    closed-ends (a .p .now) (a .table .now) (a .count) (l .steps) (l .ups) (l .inv .2) (shut .0) (l .inv .0) (c .before .before .before .jump .last .0) more (shut .1)
 
 mul-steps : tie.Need-mul-steps Inv-loop μ-loop
 mul-steps c = omega (arith, c .before .before .before .before .before .loop-test .taken, c .before .before .before .before .before .before .before .before .before .before .before .before .before .before .before .before .pre .1)

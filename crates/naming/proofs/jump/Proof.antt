@@ -1,4 +1,4 @@
--- `naming::jump` meets its contract: the numbers below r have been doubled. Assumes nothing.
+-- `naming::jump` meets its contract: the numbers above r have been doubled. Assumes nothing.
 use Prim.Native.Nat.{_+_, _-_}
 use native.Mathlib.Omega.{arith}
 use Rattle.naming.proofs.Jumping.{Jumping, jump-start, jump-more, jump-end}
@@ -6,49 +6,49 @@ use Rattle.naming.proofs.jump.Statement.{statement}
 use Rattle.naming.proofs.jump.Tie as tie
 
 abbrev Inv-loop : tie.InvT-loop
-Inv-loop ups₀ count left₀ r₀ ups left r = Jumping count ups₀ ups left r
+Inv-loop ups₀ count ended₀ r₀ ups ended r = Jumping count ups₀ ups ended r
 
 abbrev μ-loop : tie.MeasureT-loop
-μ-loop ups₀ count left₀ r₀ ups left r = count + 1 - r
+μ-loop ups₀ count ended₀ r₀ ups ended r = r
 
 loop-holds : tie.Need-loop-holds Inv-loop μ-loop
 loop-holds c = jump-start (c .args .count) (c .args .ups .now) (c .pre .2) (c .pre .3)
 
-mul-next : tie.Need-mul-next Inv-loop μ-loop
-mul-next c = omega arith
+mul-up : tie.Need-mul-up Inv-loop μ-loop
+mul-up c = omega (arith, c .before .loop .inv .passed)
 
-slice-read-next : tie.Need-slice-read-next Inv-loop μ-loop
-slice-read-next c = omega arith
+slice-read-up : tie.Need-slice-read-up Inv-loop μ-loop
+slice-read-up c = omega (arith, c .before .before .loop .inv .passed, c .before .before .loop .inv .long)
 
 cast-next : tie.Need-cast-next Inv-loop μ-loop
-cast-next c = omega (arith, c .before .before .loop .inv .within (c .before .before .loop .r) (c .before .loop-test .taken))
+cast-next c = omega (arith, c .before .before .loop .inv .within (c .before .before .loop .r) (c .before .before .loop .inv .passed))
 
-mul-next-2 : tie.Need-mul-next-2 Inv-loop μ-loop
-mul-next-2 c = omega (arith, c .before .before .loop .inv .within (c .before .before .loop .r) (c .before .loop-test .taken))
+mul-next : tie.Need-mul-next Inv-loop μ-loop
+mul-next c = omega (arith, c .before .before .loop .inv .within (c .before .before .loop .r) (c .before .before .loop .inv .passed))
 
-slice-read-next-2 : tie.Need-slice-read-next-2 Inv-loop μ-loop
-slice-read-next-2 c = omega (arith, c .before .before .before .loop .inv .within (c .before .before .before .loop .r) (c .before .before .loop-test .taken), c .before .before .before .loop .inv .long)
+slice-read-next : tie.Need-slice-read-next Inv-loop μ-loop
+slice-read-next c = omega (arith, c .before .before .before .loop .inv .within (c .before .before .before .loop .r) (c .before .before .before .loop .inv .passed), c .before .before .before .loop .inv .long)
 
 mul-ups : tie.Need-mul-ups Inv-loop μ-loop
-mul-ups c = omega arith
+mul-ups c = omega (arith, c .before .before .before .loop .inv .passed)
 
 slice-write-ups : tie.Need-slice-write-ups Inv-loop μ-loop
-slice-write-ups c = omega arith
+slice-write-ups c = omega (arith, c .before .before .before .loop .inv .passed, c .before .before .before .loop .inv .long)
 
-add-r : tie.Need-add-r Inv-loop μ-loop
-add-r c = omega arith
+sub-r : tie.Need-sub-r Inv-loop μ-loop
+sub-r c = omega arith
 
 loop-less : tie.Need-loop-less Inv-loop μ-loop
 loop-less c = omega (arith, c .before .before .loop-test .taken)
 
 loop-again : tie.Need-loop-again Inv-loop μ-loop
-loop-again c = jump-more (c .before .before .before .before .args .count) (c .before .before .before .before .args .ups .now) (c .before .before .before .loop .ups) (c .before .before .before .loop .left) (c .before .before .before .loop .r) (c .before .before .loop-test .taken) (c .before .before .before .before .pre .1) (c .before .before .before .loop .inv)
+loop-again c = jump-more (c .before .before .before .before .args .count) (c .before .before .before .before .args .ups .now) (c .before .before .before .loop .ups) (c .before .before .before .loop .ended) (c .before .before .before .loop .r) (c .before .before .loop-test .taken) (c .before .before .before .before .pre .1) (c .before .before .before .loop .inv)
 
 same-length : tie.Need-same-length Inv-loop μ-loop
 same-length c = c .before .loop .inv .long
 
 returns : tie.Need-returns Inv-loop μ-loop
-returns c = jump-end (c .before .before .args .count) (c .before .before .args .ups .now) (c .before .loop .ups) (c .before .loop .left) (c .before .loop .r) (c .loop-test .left) (c .before .loop .inv)
+returns c = jump-end (c .before .before .args .count) (c .before .before .args .ups .now) (c .before .loop .ups) (c .before .loop .ended) (c .before .loop .r) (c .loop-test .left) (c .before .before .pre .2) (c .before .loop .inv)
 
 pub jump-spec : {M : Type 1} → statement M
 jump-spec =
@@ -57,14 +57,14 @@ jump-spec =
     Inv-loop
     μ-loop
     loop-holds
+    mul-up
+    slice-read-up
+    cast-next
     mul-next
     slice-read-next
-    cast-next
-    mul-next-2
-    slice-read-next-2
     mul-ups
     slice-write-ups
-    add-r
+    sub-r
     loop-less
     loop-again
     same-length

@@ -7,11 +7,11 @@ use borrow.Author.Needs.{needs}
 use Rattle.session.proofs.settle.Statement.{statement}
 use Rattle.session.proofs.settle.Tie as tie
 
-slice-aggregate-check : tie.Need-slice-aggregate-check
-slice-aggregate-check c = search needs
+slice-aggregate-check-for : tie.Need-slice-aggregate-check-for
+slice-aggregate-check-for c = search needs
 
-check-requires : tie.Need-check-requires
-check-requires c κs = search needs
+check-for-requires : tie.Need-check-for-requires
+check-for-requires c κs = search needs
 
 number-of-requires : tie.Need-number-of-requires
 number-of-requires c κs = search needs
@@ -24,7 +24,7 @@ refuse-requires c κs = search needs
 
 returns : tie.Need-returns
 returns c =
-    let r = too-short (c .before .before .before .before .before .before .before .before .before .args .s) (c .before .before .before .before .before .before .before .before .before .args .p .now) (c .before .before .before .before .before .before .before .before .before .args .room) (c .before .before .before .before .before .check .result) (c .before .before .before .before .before .check .ensures .0) (c .before .before .before .number-of .result) (c .before .before .before .number-of .ensures) (c .before .before .if1 .taken) (stepOf (c .refuse .result)) (replyOf (c .before .unread .result)) (c .before .before .before .before .before .before .before .before .before .args .kept .now) (c .refuse .ensures) (c .before .unread .ensures) in
+    let r = too-short (c .before .before .before .before .before .before .before .before .before .args .s) (c .before .before .before .before .before .before .before .before .before .args .p .now) (c .before .before .before .before .before .before .before .before .before .args .room) (c .before .before .before .before .before .check-for .result) (c .before .before .before .before .before .check-for .ensures .0) (c .before .before .before .number-of .result) (c .before .before .before .number-of .ensures) (c .before .before .if1 .taken) (stepOf (c .refuse .result)) (replyOf (c .before .unread .result)) (c .before .before .before .before .before .before .before .before .before .args .kept .now) (c .refuse .ensures) (c .before .unread .ensures) in
     (r .0, r .1)
 
 end-stage-requires : tie.Need-end-stage-requires
@@ -38,7 +38,7 @@ refuse-requires-2 c κs = search needs
 
 returns-2 : tie.Need-returns-2
 returns-2 c =
-    let r = unreadable (c .before .before .before .before .before .before .before .before .before .before .before .args .s) (c .before .before .before .before .before .before .before .before .before .before .before .args .p .now) (c .before .before .before .before .before .before .before .before .before .before .before .args .room) (c .before .before .before .before .before .before .before .check .result) (c .before .before .before .before .before .before .before .check .ensures .0) (c .before .before .before .before .before .number-of .result) (c .before .before .before .before .before .number-of .ensures) (c .before .before .before .before .if1 .left) (c .before .before .before .if2 .taken) (c .before .before .before .before .before .before .before .before .before .before .before .pre .0) (c .before .before .before .before .before .before .before .before .before .before .before .pre .1) (stepOf (c .refuse2 .result)) (c .before .before .end-stage .result) (replyOf (c .before .unread2 .result)) (c .before .before .before .before .before .before .before .before .before .before .before .args .kept .now) (c .before .before .end-stage .ensures) (c .refuse2 .ensures) (c .before .unread2 .ensures) in
+    let r = unreadable (c .before .before .before .before .before .before .before .before .before .before .before .args .s) (c .before .before .before .before .before .before .before .before .before .before .before .args .p .now) (c .before .before .before .before .before .before .before .before .before .before .before .args .room) (c .before .before .before .before .before .before .before .check-for .result) (c .before .before .before .before .before .before .before .check-for .ensures .0) (c .before .before .before .before .before .number-of .result) (c .before .before .before .before .before .number-of .ensures) (c .before .before .before .before .if1 .left) (c .before .before .before .if2 .taken) (c .before .before .before .before .before .before .before .before .before .before .before .pre .0) (c .before .before .before .before .before .before .before .before .before .before .before .pre .1) (stepOf (c .refuse2 .result)) (c .before .before .end-stage .result) (replyOf (c .before .unread2 .result)) (c .before .before .before .before .before .before .before .before .before .before .before .args .kept .now) (c .before .before .end-stage .ensures) (c .refuse2 .ensures) (c .before .unread2 .ensures) in
     (r .0, r .1)
 
 value-of-requires : tie.Need-value-of-requires
@@ -61,7 +61,7 @@ refuse-requires-3 c κs = search needs
 
 returns-3 : tie.Need-returns-3
 returns-3 c =
-    let r = faulted (c .before .before .before .before .before .before .before .before .before .before .before .before .args .s) (c .before .before .before .before .before .before .before .before .before .before .before .before .args .p .now) (c .before .before .before .before .before .before .before .before .before .before .before .before .args .room) (c .before .before .before .before .before .before .before .before .check .result) (c .before .before .before .before .before .before .before .before .check .ensures .0) (c .before .before .before .before .before .before .number-of .result) (c .before .before .before .before .before .before .number-of .ensures) (c .before .before .before .before .if2 .left) (c .before .before .before .value-of .result) (c .before .before .before .value-of .ensures) (c .before .before .if3 .taken) (stepOf (c .refuse3 .result)) (c .before .end-stage2 .result) (c .before .before .before .before .before .before .before .before .check .last .1 .1 .0) (c .before .before .before .before .before .before .before .before .before .before .before .before .args .kept .now) (c .before .end-stage2 .ensures) (c .before .before .before .before .before .before .before .before .check .ensures .2) (c .refuse3 .ensures) in
+    let r = faulted (c .before .before .before .before .before .before .before .before .before .before .before .before .args .s) (c .before .before .before .before .before .before .before .before .before .before .before .before .args .p .now) (c .before .before .before .before .before .before .before .before .before .before .before .before .args .room) (c .before .before .before .before .before .before .before .before .check-for .result) (c .before .before .before .before .before .before .before .before .check-for .ensures .0) (c .before .before .before .before .before .before .number-of .result) (c .before .before .before .before .before .before .number-of .ensures) (c .before .before .before .before .if2 .left) (c .before .before .before .value-of .result) (c .before .before .before .value-of .ensures) (c .before .before .if3 .taken) (stepOf (c .refuse3 .result)) (c .before .end-stage2 .result) (c .before .before .before .before .before .before .before .before .check-for .last .1 .1 .0) (c .before .before .before .before .before .before .before .before .before .before .before .before .args .kept .now) (c .before .end-stage2 .ensures) (c .before .before .before .before .before .before .before .before .check-for .ensures .2) (c .refuse3 .ensures) in
     (r .0, r .1)
 
 copy-requires : tie.Need-copy-requires
@@ -72,15 +72,15 @@ same-length c = search needs
 
 returns-4 : tie.Need-returns-4
 returns-4 c =
-    let r = kept-now (c .before .before .before .before .before .before .before .before .before .before .before .before .before .before .args .s) (c .before .before .before .before .before .before .before .before .before .before .before .before .before .before .args .p .now) (c .before .before .before .before .before .before .before .before .before .before .before .before .before .before .args .room) (c .before .before .before .before .before .before .before .before .before .before .check .result) (c .before .before .before .before .before .before .before .before .before .before .check .ensures .0) (c .before .before .before .before .before .before .before .before .number-of .result) (c .before .before .before .before .before .before .before .before .number-of .ensures) (c .before .before .before .before .before .before .if2 .left) (c .before .before .before .before .before .value-of .result) (c .before .before .before .before .before .value-of .ensures) (c .before .before .before .before .if3 .left) (c .before .before .before .before .before .before .before .before .before .before .before .before .before .before .args .kept .now) (c .before .before .copy .last .1 .0) (c .before .before .before .before .before .before .before .before .before .before .before .before .before .before .pre .2) (c .before .before .copy .ensures .1) in
+    let r = kept-now (c .before .before .before .before .before .before .before .before .before .before .before .before .before .before .args .s) (c .before .before .before .before .before .before .before .before .before .before .before .before .before .before .args .p .now) (c .before .before .before .before .before .before .before .before .before .before .before .before .before .before .args .room) (c .before .before .before .before .before .before .before .before .before .before .check-for .result) (c .before .before .before .before .before .before .before .before .before .before .check-for .ensures .0) (c .before .before .before .before .before .before .before .before .number-of .result) (c .before .before .before .before .before .before .before .before .number-of .ensures) (c .before .before .before .before .before .before .if2 .left) (c .before .before .before .before .before .value-of .result) (c .before .before .before .before .before .value-of .ensures) (c .before .before .before .before .if3 .left) (c .before .before .before .before .before .before .before .before .before .before .before .before .before .before .args .kept .now) (c .before .before .copy .last .1 .0) (c .before .before .before .before .before .before .before .before .before .before .before .before .before .before .pre .2) (c .before .before .copy .ensures .1) in
     (r .0, r .1)
 
 pub settle-spec : {M : Type 1} → statement M
 settle-spec =
     tie.close
     (tie.spec
-    slice-aggregate-check
-    check-requires
+    slice-aggregate-check-for
+    check-for-requires
     number-of-requires
     unread-requires
     refuse-requires

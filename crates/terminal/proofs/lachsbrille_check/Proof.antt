@@ -1,4 +1,4 @@
--- `terminal::lachsbrille_check` meets its contract: a walk of its MIR, by hand. `device_pool::check` gets p and, for good, the table and the fault buffer; `give_verdict` gets the verdict and, for good, the lent number (`Giving.antt`).
+-- `terminal::lachsbrille_check` meets its contract: a walk of its MIR, by hand. `checker::check` gets p and, for good, the table and the fault buffer; `give_verdict` gets the verdict and, for good, the lent number (`Giving.antt`).
 -- All that the proof knows of the two is that they meet their contracts.
 -- Assumes nothing.
 use mathlib.Core.Path.{_≡_, refl, ap, subst}
@@ -46,11 +46,11 @@ use Rattle.checker.proofs.Verdict.Laws as S′
 use Rattle.working_table.specs.declared.Record.{Record}
 use Rattle.working_table.specs.Table.{recordsAfter}
 use Rattle.working_table.proofs.Rec.{R}
-use Rattle.working_table.proofs.Filling.{POwn}
-use Rattle.device_pool.proofs.check as core
-use Rattle.device_pool.proofs.check.Symbol as core-def
-use Rattle.device_pool.proofs.check.Symbol.{name as #core}
-use Rattle.device_pool.proofs.check.Met as core-thm
+use Rattle.working_table.proofs.Gathering.{POwn}
+use Rattle.checker.proofs.check as core
+use Rattle.checker.proofs.check.Symbol as core-def
+use Rattle.checker.proofs.check.Symbol.{name as #core}
+use Rattle.checker.proofs.check.Met as core-thm
 use Rattle.terminal.specs.Numbers.{Says}
 use Rattle.terminal.proofs.Giving.{Give, gives}
 use Rattle.terminal.proofs.give_verdict.Symbol as give-def
@@ -124,7 +124,7 @@ module _ {M : Type 1} (𝓤 : URA M) (H : Heap 𝓤) (A : Atoms 𝓤) (W : Given
   abbrev FOwn : Fml
   FOwn = MutSlice (named 2) κ″ u16 .own f (f-val ∷ [])
 
-  -- what `device_pool::check` says of a verdict and of the last lists of the table and of the faults
+  -- what `checker::check` says of a verdict and of the last lists of the table and of the faults
   abbrev Checks : Verdict → List Record → List ℕ → Type 0
   Checks r zs gs = (verdictOf r ≡ checkOf p (length ys)) × (recordsIn r ≡ countOf p (length ys)) × (zs ≡ recordsAfter p ys) × (gs ≡ faultsAfter p (length ys) fs)
 
@@ -136,7 +136,7 @@ module _ {M : Type 1} (𝓤 : URA M) (H : Heap 𝓤) (A : Atoms 𝓤) (W : Given
       nothing ! $ move ! (4 ∷ 0 ∷ []) $ join ! $ move ! (3 ∷ 0 ∷ []) $ join ! $ move ! (2 ∷ 0 ∷ []) $ join ! $ move ! (1 ∷ 0 ∷ []) $ join ! $ frame ! $
       nothing ! $ move ! (4 ∷ 0 ∷ []) $ fjoin ! $ move ! (3 ∷ 0 ∷ []) $ fjoin ! $ move ! (2 ∷ 0 ∷ []) $ fjoin ! $ move ! (1 ∷ 0 ∷ []) $ fjoin ! $ frame ! $ owned ! u32 (Is u32) (uint-makes 𝓤 H A W w32) m _ (refl, fits) $ done !
 
-  -- ---- the call of `device_pool::check`
+  -- ---- the call of `checker::check`
   abbrev to-core : Core 𝓤 H A mem run .Ghost
   to-core = (((κ, (κ′, (κ″, tt))), (q, (q′, (q″, tt))), tt, (x, (t, (f, tt))), (p-val ∷ [], (t-val ∷ [], (f-val ∷ [], tt)))), tt)
 
@@ -198,5 +198,5 @@ lachsbrille-check-spec 𝓤 H 𝓜 𝓖 𝓡 =
     entered 𝓤 H (tripleOf 𝓤 H (𝓖 .A) check.signature (check.spec 𝓤 H (𝓖 .A) (𝓜 .mem) (𝓡 .run)))
     (tables 𝓤 H 𝓜 𝓡 code.env .C) (tables 𝓤 H 𝓜 𝓡 code.env .Λ) #check code.function (code.unfolded 𝓤 H 𝓜 𝓡)
     (check-meets 𝓤 H (𝓖 .A) (givenOf 𝓤 H 𝓜 𝓖) (𝓜 .mem) (𝓡 .run) (tablesOf 𝓤 H 𝓜 (tables 𝓤 H 𝓜 𝓡 code.env))
-    (cited 𝓤 H (Core 𝓤 H (𝓖 .A) (𝓜 .mem) (𝓡 .run)) 𝓜 𝓡 code.env #core core-def.routine code.calls-device-pool·check (core-thm.met 𝓤 H 𝓜 𝓖 𝓡))
+    (cited 𝓤 H (Core 𝓤 H (𝓖 .A) (𝓜 .mem) (𝓡 .run)) 𝓜 𝓡 code.env #core core-def.routine code.calls-checker·check (core-thm.met 𝓤 H 𝓜 𝓖 𝓡))
     (cited 𝓤 H (Given-out 𝓤 H (𝓖 .A)) 𝓜 𝓡 code.env #give give-def.routine code.calls-terminal·give-verdict (give-thm.met 𝓤 H 𝓜 𝓖 𝓡)))

@@ -45,7 +45,7 @@ use denote.Triple.Table.{entered, cited}
 use denote.Triple.Walked.{says, Stays, stay-slice, stay-none-slice, walkOf, goes-slice, goes-none-slice, Walks, ends-at, walked, walk-meets}
 use denote.Exit.{yes}
 use Rattle.working_table.specs.declared.Record.{Record}
-use Rattle.working_table.specs.Filling.{blank}
+use Rattle.working_table.specs.Table.{blank}
 use Rattle.working_table.specs.Rows.{rowAfter, spreadOver}
 use Rattle.working_table.proofs.Record.Laws as T′
 use Rattle.working_table.proofs.Rec.{R, vals, tells, makes, copies, typed, place-rec, in-room}

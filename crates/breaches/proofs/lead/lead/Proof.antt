@@ -20,10 +20,10 @@ abbrev μ-loop : tie.MeasureT-loop
 μ-loop p table count device links numbers₀ seen₀ i₀ numbers seen i = count - i
 
 loop-holds : tie.Need-loop-holds Inv-loop μ-loop
-loop-holds c = (omega arith, refl, refl, leading-start (c .before .before .before .before .before .args .p .now) (c .before .before .before .before .before .args .table .now) (c .before .before .before .before .before .args .count) (c .before .before .before .before .before .args .numbers .now) (c .before .before .before .before .before .pre .4), λ j l. absurd (omega (arith, l)))
+loop-holds c = (omega arith, refl, refl, leading-start (c .before .before .before .before .before .args .p .now) (c .before .before .before .before .before .args .table .now) (c .before .before .before .before .before .args .count) (c .before .before .before .before .before .args .numbers .now) (c .before .before .before .before .before .pre .5), λ j l. absurd (omega (arith, l)))
 
 is-clear-requires : tie.Need-is-clear-requires Inv-loop μ-loop
-is-clear-requires c κs = (c .before .before .before .before .before .before .before .before .before .pre .0, c .before .before .before .before .before .before .before .before .before .pre .1, c .before .before .before .before .before .before .before .before .before .pre .2, c .before .before .before .before .before .before .before .before .before .pre .3, c .before .before .before .loop .inv .3, omega (arith, c .before .before .before .loop .inv .2, c .before .before .before .before .before .before .before .before .before .pre .5), c .before .before .loop-test .taken)
+is-clear-requires c κs = (c .before .before .before .before .before .before .before .before .before .pre .0, c .before .before .before .before .before .before .before .before .before .pre .1, c .before .before .before .before .before .before .before .before .before .pre .2, c .before .before .before .before .before .before .before .before .before .pre .3, c .before .before .before .before .before .before .before .before .before .pre .4, c .before .before .before .loop .inv .3, omega (arith, c .before .before .before .loop .inv .2, c .before .before .before .before .before .before .before .before .before .pre .6), c .before .before .loop-test .taken)
 
 same-length : tie.Need-same-length Inv-loop μ-loop
 same-length c = search needs

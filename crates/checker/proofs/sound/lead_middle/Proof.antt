@@ -25,7 +25,7 @@ slice-aggregate-lead-3 : tie.Need-slice-aggregate-lead-3
 slice-aggregate-lead-3 c = search needs
 
 lead-requires : tie.Need-lead-requires
-lead-requires c κs = (c .before .before .before .before .before .before .before .before .before .pre .0, c .before .before .before .before .before .before .before .before .before .pre .1, c .before .before .before .before .before .before .before .before .before .pre .2, c .before .before .before .before .before .link-ids .ensures (not-false (c .before .before .before .before .before .link-ids .result) (c .before .before .before .if1 .left)), blank 1024, long 1024 1024 (omega arith))
+lead-requires c κs = (c .before .before .before .before .before .before .before .before .before .pre .0, c .before .before .before .before .before .before .before .before .before .pre .1, c .before .before .before .before .before .before .before .before .before .pre .2, c .before .before .before .before .before .link-ids .ensures (not-false (c .before .before .before .before .before .link-ids .result) (c .before .before .before .if1 .left)) .0, c .before .before .before .before .before .link-ids .ensures (not-false (c .before .before .before .before .before .link-ids .result) (c .before .before .before .if1 .left)) .1, blank 1024, long 1024 1024 (omega arith))
 
 returns-2 : tie.Need-returns-2
 returns-2 c = search needs

@@ -47,7 +47,7 @@ use Rattle.judging.proofs.Judgement.Laws as S′
 use Rattle.working_table.specs.declared.Record.{Record}
 use Rattle.device_pool.specs.Tables.{judgedRecords}
 use Rattle.working_table.proofs.Rec.{R}
-use Rattle.working_table.proofs.Filling.{POwn}
+use Rattle.working_table.proofs.Gathering.{POwn}
 use Rattle.device_pool.proofs.judge as core
 use Rattle.device_pool.proofs.judge.Symbol as core-def
 use Rattle.device_pool.proofs.judge.Symbol.{name as #core}
