@@ -1,7 +1,7 @@
 //! Calls by both sides, with all memory that they could have changed.
 
 use crate::lent::{noise, Lent, LentPool};
-use crate::library::{self, ENTRY_WORDS, FAULT_WORDS};
+use crate::library::{self, Answer, Of, ENTRY_WORDS, FAULT_WORDS};
 use crate::shape::KINDS;
 use second::{Fault, Record};
 use std::fmt::Debug;
@@ -25,7 +25,7 @@ pub struct Outcome<Answer> {
 /// Reads into a table of so many words.
 pub fn read(pool: &LentPool, table: usize) -> Compared {
     let second = by_second(table, |table| {
-        library::answer_of(second::read_pool(pool.bytes(), table))
+        Answer::of(second::read_pool(pool.bytes(), table))
     });
     let library = by_library(table, |table| library::read(pool.bytes(), table));
     compare(pool, library, second, |answer| answer.number)
@@ -35,7 +35,7 @@ pub fn read(pool: &LentPool, table: usize) -> Compared {
 pub fn check(pool: &LentPool, table: usize, faults: usize) -> Compared {
     let mut buffer = untouched_faults(faults / FAULT_WORDS);
     let mut second = by_second(table, |table| {
-        library::answer_of(second::check(pool.bytes(), table, &mut buffer))
+        Answer::of(second::check(pool.bytes(), table, &mut buffer))
     });
     second.faults = lent_faults(&buffer, faults);
     let mut lent = lent_faults(&untouched_faults(faults / FAULT_WORDS), faults);

@@ -2,8 +2,9 @@
 
 use std::fmt::Display;
 
-/// Places of a guard.
-const GUARD: usize = 16;
+/// Places of a guard. Under AddressSanitizer there is none: a block is lent
+/// whole, and the sanitizer sees each access outside it, reads too.
+const GUARD: usize = if cfg!(address_sanitizer) { 0 } else { 16 };
 
 /// A list of words.
 #[derive(Default)]

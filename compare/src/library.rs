@@ -1,49 +1,23 @@
-//! The proved static library, through its C functions.
+//! The proved static library's reading and checking, by its bindings, and what
+//! the second implementation gives in the library's form.
 
+pub use lachsbrille::c::text_is_sound;
+
+use lachsbrille::c::{self, Record as TableEntry};
 use second::{Fault, Kind, Record, Refusal};
 
-extern "C" {
-    fn lachsbrille_read(
-        pool: *const u8,
-        pool_len: usize,
-        table: *mut TableEntry,
-        table_len: usize,
-        value: *mut usize,
-    ) -> u32;
-    fn lachsbrille_check(
-        pool: *const u8,
-        pool_len: usize,
-        table: *mut TableEntry,
-        table_len: usize,
-        faults: *mut u16,
-        faults_len: usize,
-        value: *mut usize,
-    ) -> u32;
-    fn lachsbrille_text_is_sound(text: *const u8, text_len: usize) -> bool;
-}
-
-/// An entry of the working table: four words.
-#[repr(C)]
-pub struct TableEntry {
-    start: u16,
-    length: u16,
-    kind: u16,
-    id: u16,
-}
-
 /// Words of a table entry.
-pub const ENTRY_WORDS: usize = 4;
-
-/// Words lent as a table: its first entry and how many entries it has. Words
-/// behind the last whole entry are not lent.
-pub fn entries(table: &mut [u16]) -> (*mut TableEntry, usize) {
-    (table.as_mut_ptr().cast(), table.len() / ENTRY_WORDS)
-}
+pub const ENTRY_WORDS: usize = TableEntry::WORDS;
 /// Words of a fault: record, rule, item.
 pub const FAULT_WORDS: usize = 3;
 
 /// No call gives this place: it shows where none was written.
 pub const UNWRITTEN: usize = usize::MAX;
+
+/// What the library would give where the second implementation gave this.
+pub trait Of<Theirs> {
+    fn of(theirs: Theirs) -> Self;
+}
 
 /// What reading and checking give: number 0 with the count of records or
 /// faults, or a refusal's number with its place.
@@ -56,50 +30,29 @@ pub struct Answer {
 /// Reads `pool` with the proved library; the table counts words.
 pub fn read(pool: &[u8], table: &mut [u16]) -> Answer {
     let mut value = UNWRITTEN;
-    let (entries, count) = entries(table);
-    // SAFETY: the three areas are live and apart for the whole call, and the
-    // pointer of an empty slice is not null.
-    let number = unsafe { lachsbrille_read(pool.as_ptr(), pool.len(), entries, count, &mut value) };
+    let number = c::read(pool, TableEntry::table(table), &mut value);
     Answer { number, value }
 }
 
 /// Checks `pool` with the proved library; table and faults count words.
 pub fn check(pool: &[u8], table: &mut [u16], faults: &mut [u16]) -> Answer {
     let mut value = UNWRITTEN;
-    let (entries, count) = entries(table);
-    // SAFETY: as for reading, with the faults as a fourth area.
-    let number = unsafe {
-        lachsbrille_check(
-            pool.as_ptr(),
-            pool.len(),
-            entries,
-            count,
-            faults.as_mut_ptr(),
-            faults.len(),
-            &mut value,
-        )
-    };
+    let number = c::check(pool, TableEntry::table(table), faults, &mut value);
     Answer { number, value }
 }
 
-/// Examines `text` with the proved library.
-pub fn text_is_sound(text: &[u8]) -> bool {
-    // SAFETY: the text is live for the whole call, and the pointer of an empty
-    // slice is not null.
-    unsafe { lachsbrille_text_is_sound(text.as_ptr(), text.len()) }
-}
-
-/// The same answer as the library would give it.
-pub fn answer_of(result: Result<usize, Refusal>) -> Answer {
-    match result {
-        Ok(count) => Answer {
-            number: 0,
-            value: count,
-        },
-        Err(refusal) => Answer {
-            number: refusal.number.into(),
-            value: refusal.place,
-        },
+impl Of<Result<usize, Refusal>> for Answer {
+    fn of(result: Result<usize, Refusal>) -> Self {
+        match result {
+            Ok(count) => Answer {
+                number: 0,
+                value: count,
+            },
+            Err(refusal) => Answer {
+                number: refusal.number.into(),
+                value: refusal.place,
+            },
+        }
     }
 }
 

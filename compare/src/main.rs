@@ -1,49 +1,22 @@
 //! Compares the proved library and lister with the second implementation.
 
-mod accepted;
-mod bench;
-mod breaches;
-mod calls;
-mod census;
-mod crowded;
-mod exchange;
-mod extremes;
-mod fields;
-mod fixed;
-mod generated;
-mod grid;
-mod input;
-mod lent;
-mod library;
-mod lister;
-mod logs;
-mod objects;
-mod part;
-mod queries;
-mod random;
-mod realistic;
-mod run;
-mod sessions;
-mod shape;
-mod tally;
-mod texts;
-mod vectors;
-mod verdict;
-mod wording;
+#![forbid(unsafe_code)]
 
-use run::Options;
+use compare::bench;
+use compare::run::{self, Options};
 use std::env;
+use std::path::PathBuf;
 use std::process::ExitCode;
 use std::str::FromStr;
 
 const USAGE: &str = "usage: compare run --lister PATH [--seed N] [--pools N] [--lists N] [--long]
-       compare bench";
+       compare bench [--plot FILE]";
 
 fn main() -> ExitCode {
     let mut arguments = env::args().skip(1);
     let outcome = match arguments.next().as_deref() {
         Some("run") => run(arguments),
-        Some("bench") if arguments.next().is_none() => Ok(bench::bench()),
+        Some("bench") => bench(arguments),
         _ => Err(USAGE.to_owned()),
     };
     match outcome {
@@ -64,6 +37,18 @@ fn run(arguments: impl Iterator<Item = String>) -> Result<bool, String> {
         .canonicalize()
         .map_err(|error| format!("no lister at {}: {error}", options.lister.display()))?;
     run::run(options).map_err(|error| format!("compare: {error}"))
+}
+
+fn bench(mut arguments: impl Iterator<Item = String>) -> Result<bool, String> {
+    let plot = match (arguments.next().as_deref(), arguments.next()) {
+        (None, _) => None,
+        (Some("--plot"), Some(file)) => Some(PathBuf::from(file)),
+        _ => return Err(USAGE.to_owned()),
+    };
+    if arguments.next().is_some() {
+        return Err(USAGE.to_owned());
+    }
+    bench::bench(plot.as_deref()).map_err(|error| format!("compare: {error}"))
 }
 
 fn parse(mut arguments: impl Iterator<Item = String>) -> Result<Options, String> {

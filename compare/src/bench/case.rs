@@ -1,7 +1,7 @@
 //! A pool with all that either side needs for it.
 
 use super::keep;
-use super::times::time;
+use super::times::{time, Side};
 use crate::calls;
 use crate::exchange::{judge_by_both, Order};
 use crate::lent::LentPool;
@@ -54,6 +54,10 @@ impl Case {
         self.records
     }
 
+    pub fn faults(&self) -> usize {
+        self.faults
+    }
+
     /// Has both sides do the work once and compares all of it.
     pub fn compare(&self, work: Work) -> Result<(), String> {
         let pool = LentPool::new(&self.pool);
@@ -74,12 +78,12 @@ impl Case {
         }
     }
 
-    pub fn time_library(&mut self, work: Work, calls: usize) -> f64 {
-        time(calls, || self.by_library(work))
-    }
-
-    pub fn time_second(&mut self, work: Work, calls: usize) -> f64 {
-        time(calls, || self.by_second(work))
+    /// Microseconds of a call, in a round of so many.
+    pub fn time(&mut self, side: Side, work: Work, calls: usize) -> f64 {
+        match side {
+            Side::Library => time(calls, || self.by_library(work)),
+            Side::Second => time(calls, || self.by_second(work)),
+        }
     }
 
     fn by_library(&mut self, work: Work) {
@@ -104,11 +108,5 @@ impl Case {
             Work::Query(query) => query.by_second(pool, table),
             Work::Judge(order) => keep(order.judge_by_second(pool, table)),
         }
-    }
-
-    /// Prints the first columns of a line.
-    pub fn print(&self, name: &str) {
-        let bytes = self.pool.len();
-        print!("{name:>28}{bytes:>8}{:>9}{:>8}", self.records, self.faults);
     }
 }

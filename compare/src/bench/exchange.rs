@@ -2,15 +2,18 @@
 
 use super::items;
 use super::keep;
+use super::table::{Group, Unit};
 use crate::exchange::{displayed, read_message, write_value, Fields};
+use crate::library::Of;
 use crate::random::Random;
+use second::Message;
 use std::hint::black_box;
 
 const SEED: u64 = 11783;
 /// Items of a round, worked through so often that a round is long against the
 /// clock's step.
 const ITEMS: usize = 1_000;
-const REPEATS: usize = 200;
+const REPEATS: usize = 50;
 
 const DECIMALS: u8 = 2;
 const VALUE_COMMANDS: [u8; 8] = [2, 3, 4, 5, 6, 7, 8, 10];
@@ -74,11 +77,11 @@ impl Item {
     }
 
     fn read_by_library(&self) {
-        keep(read_message(&self.bytes));
+        keep(read_message(black_box(&self.bytes[..])));
     }
 
     fn read_by_second(&self) {
-        keep(second::read_message(&self.bytes));
+        keep(read_by_call(black_box(&self.bytes[..])));
     }
 
     fn write_by_library(&self) {
@@ -127,16 +130,29 @@ impl Item {
     }
 }
 
-pub fn bench() -> Result<(), String> {
+/// So short a function would be put into the loop; every other one is called, by
+/// either side.
+#[inline(never)]
+fn read_by_call(bytes: &[u8]) -> Result<Message, u8> {
+    second::read_message(bytes)
+}
+
+pub fn bench() -> Result<Group, String> {
     let random = &mut Random::new(SEED);
     let items: Vec<Item> = (0..ITEMS).map(|_| Item::draw(random)).collect();
     items.iter().try_for_each(Item::compare)?;
-    items::print_head("nanoseconds a call; a second: the library's calls, in millions");
     let read = (Item::read_by_library, Item::read_by_second);
-    items::bench("message read", &items, REPEATS, read.0, read.1);
     let write = (Item::write_by_library, Item::write_by_second);
-    items::bench("value message written", &items, REPEATS, write.0, write.1);
     let display = (Item::display_by_library, Item::display_by_second);
-    items::bench("displayed value", &items, REPEATS, display.0, display.1);
-    Ok(())
+    Ok(Group {
+        name: "messages",
+        of: "call".into(),
+        unit: Unit::Nanoseconds,
+        beside: items::RATE,
+        rows: vec![
+            items::bench("message read", &items, REPEATS, read.0, read.1),
+            items::bench("value message written", &items, REPEATS, write.0, write.1),
+            items::bench("displayed value", &items, REPEATS, display.0, display.1),
+        ],
+    })
 }

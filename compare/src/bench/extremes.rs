@@ -1,48 +1,51 @@
 //! Checks of the longest pools that are hard on a checker.
 
 use super::case::{Case, Work};
-use super::times::{print_head, Times};
+use super::table::{grouped, Group, Row, Unit};
+use super::times::{calls_in, Rounds, Side};
 use crate::extremes::extremes;
 use crate::realistic::realistic;
 use second::MAX_POOL_BYTES;
 
 /// Microseconds that one pool may take, by the library and in all rounds.
 const BUDGET: f64 = 2e6;
-const FEWEST_ROUNDS: usize = 3;
-const MOST_ROUNDS: usize = 31;
+const FEWEST_ROUNDS: usize = 11;
+const MOST_ROUNDS: usize = 121;
 /// Microseconds of a round, so that it is long against the clock's step.
-const ROUND: f64 = 2e3;
+const ROUND: f64 = 500.0;
 
-pub fn bench() -> Result<(), String> {
-    print_head(
-        "microseconds a check; against sound: the library's time for a sound pool of this size",
-        &["library", "second", "library/second", "against sound"],
-    );
+/// Beside the times stands the library's against its own for a sound pool of
+/// the same size: what an implement can do to a terminal at worst.
+pub fn bench() -> Result<Group, String> {
+    let mut rows = Vec::new();
     for extreme in extremes(MAX_POOL_BYTES) {
         let case = Case::new(&extreme.objects);
         case.compare(Work::Check)?;
-        bench_case(extreme.name, case);
+        rows.push(bench_case(extreme.name, case));
     }
-    Ok(())
+    Ok(Group {
+        name: "hostile",
+        of: "check of a pool of about 65 KB".into(),
+        unit: Unit::Microseconds,
+        beside: "against sound",
+        rows,
+    })
 }
 
-fn bench_case(name: &str, mut case: Case) {
+fn bench_case(name: &str, mut case: Case) -> Row {
     let mut sound = Case::new(&realistic(case.pool.len()));
-    let once = case.time_library(Work::Check, 1);
-    let calls = (ROUND / once).ceil() as usize;
+    let calls = calls_in(ROUND, || case.time(Side::Library, Work::Check, 1));
+    let once = case.time(Side::Library, Work::Check, calls);
     let fitting = (BUDGET / (once * calls as f64)) as usize;
-    let (mut library, mut second, mut against) = (Vec::new(), Vec::new(), Vec::new());
+    let (mut rounds, mut sounds) = (Rounds::default(), Vec::new());
     for _ in 0..fitting.clamp(FEWEST_ROUNDS, MOST_ROUNDS) {
-        library.push(case.time_library(Work::Check, calls));
-        second.push(case.time_second(Work::Check, calls));
-        against.push(sound.time_library(Work::Check, calls));
+        rounds.push(|side| case.time(side, Work::Check, calls));
+        sounds.push(sound.time(Side::Library, Work::Check, calls));
     }
-    let library = Times::of(library);
-    let second = Times::of(second);
-    case.print(name);
-    library.print();
-    second.print();
-    library.against(second).print();
-    library.against(Times::of(against)).print();
-    println!();
+    let faults = grouped(case.faults());
+    Row {
+        name: format!("{name}, {faults} faults"),
+        pair: rounds.pair(),
+        beside: Some(rounds.library_against(&sounds)),
+    }
 }

@@ -1,48 +1,38 @@
 //! Calls that take nanoseconds, many at a time.
 
-use super::times::{time, Times};
+use super::table::Row;
+use super::times::{time, Rounds, Side};
 use std::hint::black_box;
 
-const ROUNDS: usize = 101;
-/// In nanoseconds, which makes rates millions a second.
-const MICROSECOND: f64 = 1e3;
-
-/// Prints the head of the table.
-pub fn print_head(title: &str) {
-    println!();
-    println!("{title}");
-    print!("{:>28}", "");
-    for name in ["library", "second", "library/second", "a second"] {
-        print!("{name:>20}");
-    }
-    let columns = format!("{:>10}{:>10}", "best", "median");
-    println!("\n{:>28}{}", "", columns.repeat(4));
-}
+const ROUNDS: usize = 401;
+/// The title of what stands beside the times.
+pub const RATE: &str = "millions a second";
 
 /// Has both sides work through the items so often in a round, which is then
-/// long against the clock's step, and prints a line.
+/// long against the clock's step. Beside the times stands the library's rate.
 pub fn bench<Item>(
-    name: &str,
+    name: impl Into<String>,
     items: &[Item],
     repeats: usize,
     mut by_library: impl FnMut(&Item),
     mut by_second: impl FnMut(&Item),
-) {
-    let (mut library, mut second) = (Vec::new(), Vec::new());
+) -> Row {
+    let mut rounds = Rounds::default();
     for _ in 0..ROUNDS {
-        library.push(nanoseconds(items, repeats, &mut by_library));
-        second.push(nanoseconds(items, repeats, &mut by_second));
+        rounds.push(|side| match side {
+            Side::Library => time_item(items, repeats, &mut by_library),
+            Side::Second => time_item(items, repeats, &mut by_second),
+        });
     }
-    let (library, second) = (Times::of(library), Times::of(second));
-    print!("{name:>28}");
-    library.print();
-    second.print();
-    library.against(second).print();
-    library.rate(MICROSECOND).print();
-    println!();
+    let pair = rounds.pair();
+    Row {
+        beside: Some(pair.library.rate(1.0)),
+        ..Row::new(name, pair)
+    }
 }
 
-fn nanoseconds<Item>(items: &[Item], repeats: usize, mut call: impl FnMut(&Item)) -> f64 {
+/// Microseconds of one item.
+fn time_item<Item>(items: &[Item], repeats: usize, mut call: impl FnMut(&Item)) -> f64 {
     let all = || black_box(items).iter().for_each(&mut call);
-    time(repeats, all) * MICROSECOND / items.len() as f64
+    time(repeats, all) / items.len() as f64
 }

@@ -2,7 +2,8 @@
 
 use super::items;
 use super::keep;
-use super::times::{time, Times};
+use super::table::{grouped, Group, Row, Unit};
+use super::times::{time, Rounds, Side};
 use crate::logs::{read_log, read_record, write_record, Draft, Reading, Whole, Writing};
 use crate::random::Random;
 use std::hint::black_box;
@@ -17,13 +18,13 @@ const MOST_VALUES: usize = 255;
 /// Records of a kind that are worked through together, and values of them in a
 /// round, which is then long against the clock's step.
 const ITEMS: usize = 200;
-const ROUND_VALUES: usize = 400_000;
+const ROUND_VALUES: usize = 100_000;
 /// What a record takes beside its values, as that of so many.
 const HEAD: usize = 20;
 
 /// Records of a day, one a second.
 const DAY: usize = 86_400;
-const LOG_ROUNDS: usize = 51;
+const LOG_ROUNDS: usize = 101;
 
 /// Kinds of records: a name, the layout and the count of values.
 const RECORDS: [(&str, u16, usize); 4] = [
@@ -54,36 +55,38 @@ struct Lent {
     values: Vec<i32>,
 }
 
-pub fn bench() -> Result<(), String> {
+/// Log records read and written.
+pub fn bench_records() -> Result<Group, String> {
     let random = &mut Random::new(SEED);
-    bench_records(random)?;
-    bench_logs(random)
-}
-
-fn bench_records(random: &mut Random) -> Result<(), String> {
-    items::print_head("nanoseconds a log record; a second: the library's records, in millions");
+    let mut rows = Vec::new();
     for (name, layout, count) in RECORDS {
         let drawn = (0..ITEMS).map(|_| Item::draw(random, layout, count));
         let items: Vec<Item> = drawn.collect();
         items.iter().try_for_each(Item::compare)?;
         let repeats = ROUND_VALUES / (ITEMS * (HEAD + count)) + 1;
         let (ours, theirs) = (&mut Lent::new(), &mut Lent::new());
-        items::bench(
-            &format!("{name}, read"),
+        rows.push(items::bench(
+            format!("{name}, read"),
             &items,
             repeats,
             |item| item.read_by_library(ours),
             |item| item.read_by_second(theirs),
-        );
-        items::bench(
-            &format!("{name}, written"),
+        ));
+        rows.push(items::bench(
+            format!("{name}, written"),
             &items,
             repeats,
             |item| item.write_by_library(ours),
             |item| item.write_by_second(theirs),
-        );
+        ));
     }
-    Ok(())
+    Ok(Group {
+        name: "log records",
+        of: "log record".into(),
+        unit: Unit::Nanoseconds,
+        beside: items::RATE,
+        rows,
+    })
 }
 
 impl Item {
@@ -162,8 +165,10 @@ impl Lent {
     }
 }
 
-fn bench_logs(random: &mut Random) -> Result<(), String> {
-    print_logs_head();
+/// Logs read. Beside the times stands the library's rate.
+pub fn bench_logs() -> Result<Group, String> {
+    let random = &mut Random::new(SEED);
+    let mut rows = Vec::new();
     for (name, layout, least, most) in LOGS {
         let mut bytes = Vec::new();
         let mut header = Draft::under(random, layout, most, 0);
@@ -176,43 +181,30 @@ fn bench_logs(random: &mut Random) -> Result<(), String> {
             Ok(log) if (log.number, log.count) == (0, DAY) => {}
             log => return Err(format!("a log of {name}: {log:?}")),
         }
-        let (mut library, mut second) = (Vec::new(), Vec::new());
-        for _ in 0..LOG_ROUNDS {
-            let bytes = black_box(&bytes[..]);
-            library.push(time(1, || keep(read_log(bytes, layout, most))));
-            second.push(time(1, || keep(second::read_log(bytes, layout, most))));
-        }
-        let (library, second) = (Times::of(library), Times::of(second));
-        print!("{name:>28}{:>10}{DAY:>9}", bytes.len());
-        library.print();
-        second.print();
-        library.against(second).print();
-        library.rate(bytes.len() as f64).print();
-        second.rate(bytes.len() as f64).print();
-        println!();
+        let pair = time_log(&bytes, layout, most).pair();
+        let size = bytes.len() as f64;
+        rows.push(Row {
+            beside: Some(pair.library.rate(size)),
+            ..Row::new(format!("{name}, {:.1} MB", size / 1e6), pair)
+        });
     }
-    Ok(())
+    Ok(Group {
+        name: "logs",
+        of: format!("log of {} records", grouped(DAY)),
+        unit: Unit::Microseconds,
+        beside: "MB/s",
+        rows,
+    })
 }
 
-fn print_logs_head() {
-    println!();
-    println!("microseconds a log; MB/s: megabytes of a log in a second");
-    print!("{:>47}", "");
-    for name in [
-        "library",
-        "second",
-        "library/second",
-        "library's MB/s",
-        "second's MB/s",
-    ] {
-        print!("{name:>20}");
+fn time_log(bytes: &[u8], layout: u16, most: usize) -> Rounds {
+    let mut rounds = Rounds::default();
+    for _ in 0..LOG_ROUNDS {
+        let bytes = black_box(bytes);
+        rounds.push(|side| match side {
+            Side::Library => time(1, || keep(read_log(bytes, layout, most))),
+            Side::Second => time(1, || keep(second::read_log(bytes, layout, most))),
+        });
     }
-    let columns = format!("{:>10}{:>10}", "best", "median");
-    println!(
-        "\n{:>28}{:>10}{:>9}{}",
-        "",
-        "bytes",
-        "records",
-        columns.repeat(5)
-    );
+    rounds
 }

@@ -1,7 +1,8 @@
 //! Texts and labels of a sound pool, and commands judged by it.
 
 use super::case::{Case, Work};
-use super::times::{print_head, Times};
+use super::table::{grouped, Group, Row, Unit};
+use super::times::Rounds;
 use crate::exchange::Order;
 use crate::objects::Object;
 use crate::queries::Query;
@@ -11,12 +12,12 @@ use second::{Kind, MAX_POOL_BYTES};
 const SIZE: usize = 8_000;
 /// Data of 12 bytes each, with an entry of 2, beside 44 bytes.
 const LISTED: u16 = ((MAX_POOL_BYTES - 44) / 14) as u16;
-const ROUNDS: usize = 51;
-const MOST_CALLS: usize = 100;
+const ROUNDS: usize = 201;
 /// Microseconds of a round, so that it is long against the clock's step.
-const ROUND: f64 = 1e3;
+const ROUND: f64 = 250.0;
 
-pub fn bench() -> Result<(), String> {
+/// Texts and labels.
+pub fn bench_queries() -> Result<Group, String> {
     let objects = realistic(SIZE);
     let last = objects[objects.len() - 1].id;
     let queries = [
@@ -26,7 +27,11 @@ pub fn bench() -> Result<(), String> {
         ("labels", Query::Labels),
     ];
     let queries = queries.map(|(name, query)| (name, Work::Query(query)));
-    bench_all("microseconds a query", &objects, &queries)?;
+    bench_all("queries", "query of a sound pool", &objects, &queries)
+}
+
+pub fn bench_judging() -> Result<Group, String> {
+    let objects = realistic(SIZE);
     let mut elements = objects.iter().filter(|it| it.kind == Kind::Det);
     let last_element = elements.next_back().map_or(0, |it| it.number);
     let judged = [
@@ -35,16 +40,24 @@ pub fn bench() -> Result<(), String> {
         ("command 4, last element", judge(4, last_element, 0)),
         ("command 4, no element", judge(4, last_element + 1, 0)),
     ];
-    bench_all("microseconds a judgement", &objects, &judged)?;
-    let objects = one_list();
+    bench_all(
+        "judging",
+        "command judged by a sound pool",
+        &objects,
+        &judged,
+    )
+}
+
+/// The same by a pool whose one list names all data.
+pub fn bench_one_list() -> Result<Group, String> {
     let judged = [
         ("command 1", judge(1, 0, 0)),
-        ("first DDI of the list", judge(4, 0, 0)),
-        ("last DDI of the list", judge(4, 0, LISTED - 1)),
-        ("no DDI of the list", judge(4, 0, LISTED)),
+        ("command 4, first DDI of the list", judge(4, 0, 0)),
+        ("command 4, last DDI of the list", judge(4, 0, LISTED - 1)),
+        ("command 4, no DDI of the list", judge(4, 0, LISTED)),
     ];
-    let title = "microseconds a judgement, by one list that names all data";
-    bench_all(title, &objects, &judged)
+    let of = "command judged by a sound pool";
+    bench_all("judging, one list", of, &one_list(), &judged)
 }
 
 fn judge(command: u8, element: u16, ddi: u16) -> Work {
@@ -70,24 +83,24 @@ fn one_list() -> Vec<Object> {
     objects
 }
 
-fn bench_all(title: &str, objects: &[Object], works: &[(&str, Work)]) -> Result<(), String> {
+fn bench_all(
+    name: &'static str,
+    of: &str,
+    objects: &[Object],
+    works: &[(&str, Work)],
+) -> Result<Group, String> {
     let mut case = Case::new(objects);
-    print_head(title, &["library", "second", "library/second"]);
+    let mut rows = Vec::new();
     for &(name, work) in works {
         case.compare(work)?;
-        let once = case.time_library(work, 1);
-        let calls = ((ROUND / once).ceil() as usize).min(MOST_CALLS);
-        let (mut library, mut second) = (Vec::new(), Vec::new());
-        for _ in 0..ROUNDS {
-            library.push(case.time_library(work, calls));
-            second.push(case.time_second(work, calls));
-        }
-        let (library, second) = (Times::of(library), Times::of(second));
-        case.print(name);
-        library.print();
-        second.print();
-        library.against(second).print();
-        println!();
+        let rounds = Rounds::take(ROUNDS, ROUND, |side, calls| case.time(side, work, calls));
+        rows.push(Row::new(name, rounds.pair()));
     }
-    Ok(())
+    Ok(Group {
+        name,
+        of: format!("{of} of {} bytes", grouped(case.pool.len())),
+        unit: Unit::Microseconds,
+        beside: "",
+        rows,
+    })
 }

@@ -2,17 +2,19 @@
 
 use super::case::Case;
 use super::keep;
-use super::times::{print_head, time, Times};
-use crate::library::ENTRY_WORDS;
+use super::table::{grouped, Group, Row, Unit};
+use super::times::{time, Rounds, Side};
+use crate::library::{Of, ENTRY_WORDS};
 use crate::sessions::{longest, Call, Client, Value};
+use lachsbrille::c::{session_activate, session_transfer, Record as TableEntry};
 use second::{Record, Session, Stage};
 use std::hint::black_box;
 
 /// What a frame of a transport message carries.
 const FRAME: usize = 7;
-const ROUNDS: usize = 101;
+const ROUNDS: usize = 401;
 /// Microseconds of a round, so that it is long against the clock's step.
-const ROUND: f64 = 2e3;
+const ROUND: f64 = 500.0;
 
 #[derive(Clone, Copy)]
 enum Work {
@@ -30,34 +32,26 @@ struct Bench {
     table: Vec<Record>,
 }
 
-pub fn bench() -> Result<(), String> {
-    let case = Case::new(&longest());
-    let mut bench = Bench::new(&case);
-    print_head(
-        "microseconds a pool",
-        &["library", "second", "library/second"],
-    );
+pub fn bench() -> Result<Group, String> {
+    let mut bench = Bench::new(&Case::new(&longest()));
+    let length = bench.pool.len();
+    let mut rows = Vec::new();
     for (name, work) in [
-        ("transfer in pieces of 7", Work::Transfer(FRAME)),
-        ("transfer in one piece", Work::Transfer(bench.pool.len())),
+        ("transfer in pieces of 7 bytes", Work::Transfer(FRAME)),
+        ("transfer in one piece", Work::Transfer(length)),
         ("activate", Work::Activate),
     ] {
         bench.compare(work)?;
-        let once = time(1, || bench.by_library(work));
-        let calls = (ROUND / once).ceil() as usize;
-        let (mut library, mut second) = (Vec::new(), Vec::new());
-        for _ in 0..ROUNDS {
-            library.push(time(calls, || bench.by_library(work)));
-            second.push(time(calls, || bench.by_second(work)));
-        }
-        let (library, second) = (Times::of(library), Times::of(second));
-        case.print(name);
-        library.print();
-        second.print();
-        library.against(second).print();
-        println!();
+        let rounds = Rounds::take(ROUNDS, ROUND, |side, calls| bench.time(side, work, calls));
+        rows.push(Row::new(name, rounds.pair()));
     }
-    Ok(())
+    Ok(Group {
+        name: "sessions",
+        of: format!("sound pool of {} bytes", grouped(length)),
+        unit: Unit::Microseconds,
+        beside: "",
+        rows,
+    })
 }
 
 impl Bench {
@@ -104,20 +98,28 @@ impl Bench {
         }
     }
 
+    fn time(&mut self, side: Side, work: Work, calls: usize) -> f64 {
+        match side {
+            Side::Library => time(calls, || self.by_library(work)),
+            Side::Second => time(calls, || self.by_second(work)),
+        }
+    }
+
     fn by_library(&mut self, work: Work) {
         match work {
             Work::Transfer(length) => {
                 let mut value = Value::of(self.session(0));
                 let staging = black_box(&mut self.staging[..]);
                 for piece in black_box(&self.pool[..]).chunks(length) {
-                    value = value.transfer(piece, staging).value;
+                    value = session_transfer(value, piece, staging).session;
                 }
                 keep(value);
             }
             Work::Activate => {
                 let value = black_box(Value::of(self.session(self.pool.len())));
                 let staging = black_box(&self.staging[..]);
-                keep(value.activate(staging, &mut self.kept, &mut self.table_words));
+                let table = TableEntry::table(&mut self.table_words);
+                keep(session_activate(value, staging, &mut self.kept, table));
             }
         }
     }

@@ -1,85 +1,104 @@
-//! Sound pools of several sizes.
+//! Sound pools of several sizes, and how the time a byte grows with them.
 
 use super::case::{Case, Work};
-use super::times::{print_head, Times};
+use super::table::{grouped, print_line, print_titles, Group, Row, Unit};
+use super::times::{Pair, Rounds, Times};
 use crate::realistic::realistic;
 
 const SIZES: [usize; 4] = [1_000, 8_000, 32_000, 65_000];
 /// Bytes worked through in a round, so that a round is long against the
 /// clock's step.
-const ROUND_BYTES: usize = 2_000_000;
+const ROUND_BYTES: usize = 500_000;
 
-/// A pool with its times so far.
-struct Row {
-    case: Case,
-    library: Vec<f64>,
-    second: Vec<f64>,
+/// One kind of work over pools of rising sizes.
+pub struct Growth {
+    pub name: &'static str,
+    pub sizes: Vec<Size>,
 }
 
-/// The times of a row, a byte.
-struct PerByte {
-    library: Times,
-    second: Times,
+pub struct Size {
+    pub bytes: usize,
+    pub records: usize,
+    pub pair: Pair,
 }
 
-/// Prints the table of this work after so many rounds.
-pub fn bench(name: &str, work: Work, rounds: usize) -> Result<(), String> {
-    let mut rows: Vec<Row> = SIZES.map(Row::new).into();
-    for row in &rows {
-        row.case.compare(work)?;
-    }
-    // All sizes and both sides in each round, so that a busy machine slows all.
-    for _ in 0..rounds {
-        rows.iter_mut().for_each(|row| row.time_once(work));
-    }
-    print_head(
-        &format!("microseconds a {name}; growth: time a byte against the size before"),
-        &[
-            "library",
-            "second",
-            "library/second",
-            "library's growth",
-            "second's growth",
-        ],
-    );
-    let mut before = None;
-    for row in rows {
-        before = Some(row.print(before));
-    }
-    Ok(())
-}
-
-impl Row {
-    fn new(size: usize) -> Self {
-        Row {
-            case: Case::new(&realistic(size)),
-            library: Vec::new(),
-            second: Vec::new(),
+impl Growth {
+    /// Times this work, in so many rounds.
+    pub fn of(name: &'static str, work: Work, rounds: usize) -> Result<Self, String> {
+        let mut timed: Vec<(Case, Rounds)> = SIZES
+            .map(|size| (Case::new(&realistic(size)), Rounds::default()))
+            .into();
+        for (case, _) in &timed {
+            case.compare(work)?;
         }
+        // All sizes and both sides in each round, so that a busy machine slows all.
+        for _ in 0..rounds {
+            for (case, rounds) in &mut timed {
+                let calls = ROUND_BYTES / case.pool.len();
+                rounds.push(|side| case.time(side, work, calls));
+            }
+        }
+        let sizes = timed.iter().map(|(case, rounds)| Size {
+            bytes: case.pool.len(),
+            records: case.records(),
+            pair: rounds.pair(),
+        });
+        Ok(Growth {
+            name,
+            sizes: sizes.collect(),
+        })
     }
 
-    fn time_once(&mut self, work: Work) {
-        let calls = ROUND_BYTES / self.case.pool.len();
-        self.library.push(self.case.time_library(work, calls));
-        self.second.push(self.case.time_second(work, calls));
-    }
-
-    fn print(self, before: Option<PerByte>) -> PerByte {
-        let (library, second) = (Times::of(self.library), Times::of(self.second));
-        self.case.print("sound");
-        library.print();
-        second.print();
-        library.against(second).print();
-        let bytes = self.case.pool.len();
-        let now = PerByte {
-            library: library.split(bytes),
-            second: second.split(bytes),
+    pub fn group(&self) -> Group {
+        let row = |size: &Size| {
+            let (bytes, records) = (grouped(size.bytes), grouped(size.records));
+            Row::new(format!("{bytes} bytes, {records} records"), size.pair)
         };
-        if let Some(before) = before {
-            now.library.against(before.library).print();
-            now.second.against(before.second).print();
+        Group {
+            name: self.name,
+            of: "sound pool".into(),
+            unit: Unit::Microseconds,
+            beside: "",
+            rows: self.sizes.iter().map(row).collect(),
         }
-        println!();
-        now
     }
+
+    fn print(&self) {
+        let name = self.name;
+        print_line(
+            &format!("{name}, library"),
+            self.sizes.iter().map(Size::library),
+        );
+        print_line(
+            &format!("{name}, second"),
+            self.sizes.iter().map(Size::second),
+        );
+        let ratios = self.sizes.iter().map(|size| size.pair.ratio);
+        print_line(&format!("{name}, library/second"), ratios);
+    }
+}
+
+impl Size {
+    /// The library's times in nanoseconds a byte.
+    pub fn library(&self) -> Times {
+        self.a_byte(self.pair.library)
+    }
+
+    /// The second implementation's times in nanoseconds a byte.
+    pub fn second(&self) -> Times {
+        self.a_byte(self.pair.second)
+    }
+
+    fn a_byte(&self, microseconds: Times) -> Times {
+        microseconds.scaled(1e3 / self.bytes as f64)
+    }
+}
+
+/// Prints the time a byte at each size. The sizes are the same in all.
+pub fn print_growth(growths: &[Growth]) {
+    println!();
+    let bytes = |size: &Size| format!("{} bytes", grouped(size.bytes));
+    let titles: Vec<String> = growths[0].sizes.iter().map(bytes).collect();
+    print_titles("growth: ns a byte of a sound pool", &titles);
+    growths.iter().for_each(Growth::print);
 }

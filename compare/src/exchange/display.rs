@@ -192,13 +192,14 @@ impl Shown {
     }
 }
 
+/// A value, and the presentation it is to be displayed by.
 #[derive(Clone, Copy, Debug)]
-struct Asked {
-    value: i32,
-    offset: i32,
+pub struct Asked {
+    pub value: i32,
+    pub offset: i32,
     /// As bits.
-    scale: u32,
-    decimals: u8,
+    pub scale: u32,
+    pub decimals: u8,
 }
 
 impl Asked {
@@ -229,6 +230,21 @@ impl Asked {
             offset,
             scale,
             decimals,
+        }
+    }
+
+    /// Has both sides display the value, and holds them to each other and to
+    /// the product in whole numbers.
+    pub fn by_both(self) -> Result<(), String> {
+        let library = Shown::by_library(self);
+        let second = Shown::by_second(self);
+        let expected = self.expected();
+        if library != second {
+            Err(format!("{library:?} against {second:?}"))
+        } else if second != expected {
+            Err(format!("{second:?} against {expected:?} in whole numbers"))
+        } else {
+            Ok(())
         }
     }
 
@@ -327,15 +343,6 @@ fn compare_known(part: &mut Part) {
 }
 
 fn compare_one(part: &mut Part, asked: Asked) {
-    let library = Shown::by_library(asked);
-    let second = Shown::by_second(asked);
-    let expected = asked.expected();
-    let outcome = if library != second {
-        Err(format!("{library:?} against {second:?}"))
-    } else if second != expected {
-        Err(format!("{second:?} against {expected:?} in whole numbers"))
-    } else {
-        Ok(asked.column())
-    };
+    let outcome = asked.by_both().map(|()| asked.column());
     part.take(0, asked.row(), outcome, || format!("{asked:?}"));
 }

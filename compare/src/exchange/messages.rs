@@ -4,6 +4,7 @@ use super::library::{self, number_of, Fields};
 use super::vectors::{self, Asked, Line};
 use crate::grid::Grid;
 use crate::lent::{untouched, LentArea, LentPool};
+use crate::library::Of;
 use crate::part::Part;
 use crate::random::Random;
 use second::Message;
@@ -205,7 +206,8 @@ fn read(part: &mut Part, message: &[u8]) {
     part.take(READ, row, outcome, || format!("reading {message:02X?}"));
 }
 
-fn read_by_both(message: &[u8]) -> Result<Fields, String> {
+/// The message's fields or a refusal, on which both sides agree.
+pub fn read_by_both(message: &[u8]) -> Result<Fields, String> {
     let lent = LentPool::new(message);
     let library = library::read_message(lent.bytes());
     let second = Fields::of(second::read_message(message));
@@ -258,7 +260,7 @@ fn read_back(part: &mut Part, message: Message, written: &[u8]) {
 
 /// The message's bytes or the number of the refusal, on which both sides
 /// agree, as on all memory around.
-fn write_by_both(message: Message, length: usize) -> Result<Result<Vec<u8>, u8>, String> {
+pub fn write_by_both(message: Message, length: usize) -> Result<Result<Vec<u8>, u8>, String> {
     let before: Vec<u8> = untouched(length);
     let (mut ours, mut theirs) = (LentArea::new(&before), LentArea::new(&before));
     let (to, other) = (ours.contents_mut(), theirs.contents_mut());

@@ -6,8 +6,10 @@ mod library;
 mod messages;
 mod vectors;
 
+pub use display::Asked;
 pub use judging::judge_by_both;
 pub use library::{displayed, read_message, write_value, Fields, Order};
+pub use messages::{read_by_both, write_by_both};
 
 use crate::part::Report;
 use std::io;

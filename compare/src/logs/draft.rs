@@ -5,6 +5,7 @@ use super::rules::{
     width, EAST, GREATEST_EAST, GREATEST_NORTH, GREATEST_TIME, LAYOUTS, NORTH, STATUS, STATUSES,
     WIDTHS,
 };
+use crate::library::Of;
 use crate::random::Random;
 use second::LogFields;
 

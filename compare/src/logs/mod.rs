@@ -17,6 +17,7 @@ pub use whole::Whole;
 pub use writing::Writing;
 
 use crate::grid::Grid;
+use crate::library::Of;
 use crate::part::{Part, Report};
 use library::Marks;
 use std::io;
@@ -43,20 +44,26 @@ fn every_layout() -> Part {
     let grid = Grid::new("optional fields", [""], MARKS, |_, _| true);
     let mut part = Part::new("log layouts", vec![grid]);
     for layout in 0..=u16::MAX {
-        let library = library::optional_fields(layout);
-        let second = Marks::of(second::optional_fields(layout));
-        let owed = Marks::of(rules::optional_fields(layout));
-        let column = (owed.number + owed.count).to_string();
-        let outcome = if library != second {
-            Err(format!("{library:?} against {second:?}"))
-        } else if second != owed {
-            Err(format!("{second:?} where {owed:?} is owed"))
-        } else {
-            Ok(&column[..])
-        };
+        let outcome = layout_by_both(layout);
+        let column = outcome.clone().map(|it| (it.number + it.count).to_string());
+        let outcome = column.as_deref().map_err(String::clone);
         part.take(0, 0, outcome, || format!("layout {layout:#05X}"));
     }
     part
+}
+
+/// The number of optional fields, on which both sides and the rules agree.
+pub fn layout_by_both(layout: u16) -> Result<Marks, String> {
+    let library = library::optional_fields(layout);
+    let second = Marks::of(second::optional_fields(layout));
+    let owed = Marks::of(rules::optional_fields(layout));
+    if library != second {
+        Err(format!("{library:?} against {second:?}"))
+    } else if second != owed {
+        Err(format!("{second:?} where {owed:?} is owed"))
+    } else {
+        Ok(owed)
+    }
 }
 
 /// The bytes of an input, for the report of a difference.

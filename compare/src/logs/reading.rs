@@ -8,6 +8,7 @@ use super::plan;
 use super::rules::{place, Causes, PAIR_BYTES, READING, WIDTHS};
 use super::vector::Vector;
 use crate::lent::{untouched, LentArea, LentPool, Place};
+use crate::library::Of;
 use crate::part::Part;
 use crate::random::Random;
 
@@ -33,11 +34,11 @@ const BEHIND: [usize; 3] = [1, 5, 90];
 /// A record to be read from the start of the bytes.
 #[derive(Clone, Copy)]
 pub struct Reading<'a> {
-    bytes: &'a [u8],
-    layout: u16,
-    logged: usize,
+    pub bytes: &'a [u8],
+    pub layout: u16,
+    pub logged: usize,
     /// Lengths of the lists of ordinals and values.
-    lists: [usize; 2],
+    pub lists: [usize; 2],
 }
 
 /// What both sides gave, and the lists they left.

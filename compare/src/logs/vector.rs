@@ -2,6 +2,7 @@
 
 use super::draft::Draft;
 use super::library::{Fields, Log, Record};
+use crate::library::Of;
 use crate::vectors;
 use second::LogFields;
 use std::io;

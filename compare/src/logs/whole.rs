@@ -8,6 +8,7 @@ use super::plan::{self, SOME_LAYOUTS};
 use super::rules::{Causes, LOG};
 use super::vector::Vector;
 use crate::lent::LentPool;
+use crate::library::Of;
 use crate::part::Part;
 use crate::random::Random;
 
@@ -34,9 +35,9 @@ const DAY: usize = 86_400;
 /// A log to be read.
 #[derive(Clone, Copy)]
 pub struct Whole<'a> {
-    bytes: &'a [u8],
-    layout: u16,
-    logged: usize,
+    pub bytes: &'a [u8],
+    pub layout: u16,
+    pub logged: usize,
 }
 
 impl<'a> Whole<'a> {

@@ -10,6 +10,7 @@ use super::vector::Vector;
 use super::whole::Whole;
 use crate::grid::Grid;
 use crate::lent::{untouched, LentArea};
+use crate::library::Of;
 use crate::part::Part;
 use crate::random::Random;
 
@@ -40,9 +41,9 @@ const LONG_ROOM: usize = 2_000;
 /// A record to be written: the draft's, but for the count and the room.
 #[derive(Clone, Copy)]
 pub struct Writing<'a> {
-    draft: &'a Draft,
-    count: usize,
-    room: usize,
+    pub draft: &'a Draft,
+    pub count: usize,
+    pub room: usize,
 }
 
 impl<'a> Writing<'a> {

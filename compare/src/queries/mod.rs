@@ -5,8 +5,9 @@ mod library;
 use crate::bench::keep;
 use crate::calls::{by_library, by_second, compare, Compared};
 use crate::lent::LentPool;
-use crate::library::ENTRY_WORDS;
+use crate::library::{Of, ENTRY_WORDS};
 use crate::verdict::{Effort, Verdict};
+use lachsbrille::c::DeviceLabels;
 use second::Record;
 use std::collections::BTreeSet;
 
@@ -71,7 +72,7 @@ fn text(pool: &LentPool, table: usize, id: u16) -> Compared {
 /// Asks for the labels, with a table of so many words.
 fn labels(pool: &LentPool, table: usize) -> Compared {
     let second = by_second(table, |table| {
-        library::labels_of(second::labels(pool.bytes(), table))
+        DeviceLabels::of(second::labels(pool.bytes(), table))
     });
     let library = by_library(table, |table| library::labels(pool.bytes(), table));
     compare(pool, library, second, |answer| answer.number)

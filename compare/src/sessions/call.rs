@@ -1,9 +1,10 @@
 //! One session call, by each side.
 
-use super::library::{Step, Value};
+use super::library::{impossible, session_in, Step, Value};
 use crate::calls::{lent_table, untouched};
 use crate::lent::{Lent, LentArea, LentPool};
-use crate::library::ENTRY_WORDS;
+use crate::library::{Of, ENTRY_WORDS};
+use lachsbrille::c::{self, Record as TableEntry};
 use second::{Book, Entry};
 use std::fmt;
 
@@ -30,10 +31,12 @@ impl Call {
         let Areas { staging, kept } = areas;
         let mut table = Lent::default();
         let step = match self {
-            Call::Offer(size) => value.offer(*size, staging.contents(), kept.contents()),
+            Call::Offer(size) => {
+                c::session_offer(value, *size, staging.contents(), kept.contents())
+            }
             Call::Transfer(piece) => {
                 let piece = LentPool::new(piece);
-                let step = value.transfer(piece.bytes(), staging.contents_mut());
+                let step = c::session_transfer(value, piece.bytes(), staging.contents_mut());
                 if piece.is_changed() {
                     return Err("the piece was changed".into());
                 }
@@ -41,11 +44,12 @@ impl Call {
             }
             Call::Activate(words) => {
                 table = lent_table(&untouched(words / ENTRY_WORDS), *words);
-                value.activate(staging.contents(), kept.contents_mut(), table.words())
+                let table = TableEntry::table(table.words());
+                c::session_activate(value, staging.contents(), kept.contents_mut(), table)
             }
-            Call::Deactivate => value.deactivate(),
-            Call::Delete => value.delete(),
-            Call::Lost => value.lost(),
+            Call::Deactivate => c::session_deactivate(value),
+            Call::Delete => c::session_delete(value),
+            Call::Lost => c::session_lost(value),
         };
         Ok((step, table))
     }
@@ -54,8 +58,8 @@ impl Call {
     /// fit into the words, and gives the table it leaves.
     pub fn by_second(&self, value: Value, areas: &mut Areas) -> (Step, Lent) {
         let mut table = untouched(self.table_words() / ENTRY_WORDS);
-        let step = match value.session() {
-            None => Step::impossible(value),
+        let step = match session_in(value) {
+            None => impossible(value),
             Some(session) => {
                 let Areas { staging, kept } = areas;
                 Step::of(match self {

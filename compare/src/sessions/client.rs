@@ -3,6 +3,8 @@
 use super::call::{Areas, Call};
 use super::library::{Step, Value};
 use crate::lent::LentArea;
+use crate::library::Of;
+use lachsbrille::c::session_new;
 use second::Book;
 use std::fmt::Write;
 
@@ -64,7 +66,7 @@ impl Client {
     /// The value is the library's, which the first call holds to the others'.
     pub fn new(staging: &[u8], kept: &[u8]) -> Self {
         Client {
-            value: Value::new(),
+            value: session_new(),
             sides: Sides::new(staging, kept),
             book: Book::new(),
             start: [staging.into(), kept.into()],
@@ -79,7 +81,7 @@ impl Client {
         let outcome = self.sides.call(self.value, &call);
         self.calls.push(call);
         let step = outcome?;
-        let by_book = Step::of_book(&self.book, entry);
+        let by_book = Step::of((&self.book, entry));
         if step != by_book {
             return Err(format!("{step:?} against the book's {by_book:?}"));
         }
@@ -89,7 +91,7 @@ impl Client {
         if !self.sides.kept().starts_with(self.book.kept()) {
             return Err("the kept area does not start with the kept pool".into());
         }
-        self.value = step.value;
+        self.value = step.session;
         Ok(step)
     }
 
@@ -101,7 +103,7 @@ impl Client {
     /// Whether the first value is new on all sides.
     pub fn is_new(&self) -> bool {
         let session = second::Session::new();
-        self.value == Value::of(session) && self.value == Value::of_book(&Book::new())
+        self.value == Value::of(session) && self.value == Value::of(&Book::new())
     }
 
     /// The whole list, so that it can be made again.

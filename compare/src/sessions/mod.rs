@@ -11,7 +11,7 @@ mod tally;
 mod values;
 
 pub use call::Call;
-pub use client::Client;
+pub use client::{Client, Sides};
 pub use fixed::longest;
 pub use library::{Step, Value};
 

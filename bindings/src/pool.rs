@@ -1,0 +1,255 @@
+//! Pools read and checked, their texts and labels.
+
+use crate::c;
+use crate::c::Record;
+use crate::Cause;
+use std::error::Error;
+use std::fmt;
+use std::slice;
+
+/// The five kinds of records.
+#[derive(Clone, Copy, Debug, PartialEq, Eq, Hash)]
+pub enum Kind {
+    /// DVC.
+    Device,
+    /// DET.
+    DeviceElement,
+    /// DPD.
+    ProcessData,
+    /// DPT.
+    Property,
+    /// DVP.
+    ValuePresentation,
+}
+
+impl Record {
+    /// The kind of a record that was read; none of an entry that no call has
+    /// written.
+    pub fn kind(&self) -> Option<Kind> {
+        match self.kind {
+            1 => Some(Kind::Device),
+            2 => Some(Kind::DeviceElement),
+            3 => Some(Kind::ProcessData),
+            4 => Some(Kind::Property),
+            5 => Some(Kind::ValuePresentation),
+            _ => None,
+        }
+    }
+}
+
+/// A breach of the rule table. Records count from 1; record 0 is the whole
+/// pool.
+#[repr(C)]
+#[derive(Clone, Copy, Debug, Default, PartialEq, Eq, Hash)]
+pub struct Fault {
+    pub record: u16,
+    pub rule: u16,
+    pub item: u16,
+}
+
+impl Fault {
+    const WORDS: usize = 3;
+
+    /// The fault buffer as C takes it.
+    fn words(faults: &mut [Fault]) -> &mut [u16] {
+        let length = Fault::WORDS * faults.len();
+        // SAFETY: a fault is three words with no gap and may hold any.
+        unsafe { slice::from_raw_parts_mut(faults.as_mut_ptr().cast(), length) }
+    }
+}
+
+/// A pool that is not read: why, and where.
+#[derive(Clone, Copy, Debug, PartialEq, Eq)]
+pub struct Refusal {
+    pub cause: Cause,
+    /// Where the bad record or length byte is, or how many entries the table
+    /// needs ([`Cause::ShortTable`]); 0 where there is no place.
+    pub place: usize,
+}
+
+impl Refusal {
+    fn check(number: u32, value: usize) -> Result<usize, Refusal> {
+        match Cause::check(number) {
+            Ok(()) => Ok(value),
+            Err(cause) => Err(Refusal {
+                cause,
+                place: value,
+            }),
+        }
+    }
+}
+
+impl fmt::Display for Refusal {
+    fn fmt(&self, f: &mut fmt::Formatter) -> fmt::Result {
+        write!(f, "{}, at {}", self.cause, self.place)
+    }
+}
+
+impl Error for Refusal {}
+
+/// The labels of a device.
+#[derive(Clone, Copy, Debug, PartialEq, Eq)]
+pub struct Labels {
+    pub structure: [u8; 7],
+    pub localization: [u8; 7],
+    extended: [u8; 32],
+    extended_length: u16,
+}
+
+impl Labels {
+    pub fn extended(&self) -> &[u8] {
+        &self.extended[..self.extended_length.into()]
+    }
+}
+
+/// Reads a pool and gives the count of its records, which the table then
+/// starts with; later entries stay. A refusal leaves the table as it was.
+pub fn read(pool: &[u8], table: &mut [Record]) -> Result<usize, Refusal> {
+    let mut value = 0;
+    let number = c::read(pool, table, &mut value);
+    Refusal::check(number, value)
+}
+
+/// Checks a pool and gives the full count of its faults, 0 where it is
+/// accepted. The buffer gets the first ones in order, as many as fit; the
+/// table is filled as in reading. A refusal leaves both as they were.
+pub fn check(pool: &[u8], table: &mut [Record], faults: &mut [Fault]) -> Result<usize, Refusal> {
+    let mut value = 0;
+    let number = c::check(pool, table, Fault::words(faults), &mut value);
+    Refusal::check(number, value)
+}
+
+/// Whether a text keeps rule 4: well-formed UTF-8 without a byte order mark
+/// in front, of at most 32 characters.
+pub fn text_is_sound(text: &[u8]) -> bool {
+    c::text_is_sound(text)
+}
+
+/// The designator or unit text of the first record with this ID, as a part of
+/// the pool. The pool must be accepted; the table is filled whenever it is
+/// read.
+pub fn text<'pool>(pool: &'pool [u8], table: &mut [Record], id: u16) -> Result<&'pool [u8], Cause> {
+    let (mut from, mut to) = (0, 0);
+    let number = c::text(pool, table, id, &mut from, &mut to);
+    Cause::check(number).map(|()| &pool[from..to])
+}
+
+/// The labels of the device. The pool must be accepted; the table is filled
+/// whenever it is read.
+pub fn labels(pool: &[u8], table: &mut [Record]) -> Result<Labels, Cause> {
+    let labels = c::labels(pool, table);
+    Cause::check(labels.number).map(|()| Labels {
+        structure: labels.structure,
+        localization: labels.localization,
+        extended: labels.extended,
+        extended_length: labels.extended_length,
+    })
+}
+
+#[cfg(test)]
+mod tests {
+    use super::*;
+    use crate::pools::{p, q};
+
+    const UNTOUCHED: Record = Record {
+        start: 9_001,
+        length: 9_002,
+        kind: 9_003,
+        id: 9_004,
+    };
+    const NO_FAULT: Fault = Fault {
+        record: 9_005,
+        rule: 9_006,
+        item: 9_007,
+    };
+
+    #[test]
+    fn a_pool_is_read_into_the_table() {
+        let mut table = [UNTOUCHED; 5];
+        assert_eq!(read(&q(), &mut table), Ok(4));
+        let rows = table.map(|it| (it.start, it.length, it.kind(), it.id));
+        assert_eq!(
+            rows[..4],
+            [
+                (0, 31, Some(Kind::Device), 0),
+                (31, 13, Some(Kind::DeviceElement), 1),
+                (44, 15, Some(Kind::DeviceElement), 2),
+                (59, 12, Some(Kind::ProcessData), 3),
+            ]
+        );
+        assert_eq!(table[4], UNTOUCHED);
+    }
+
+    #[test]
+    fn a_refusal_has_its_place_and_leaves_the_table() {
+        let mut table = [UNTOUCHED; 4];
+        let mut refusal = |pool: &[u8], entries| {
+            let refusal = read(pool, &mut table[..entries]).unwrap_err();
+            (refusal.cause, refusal.place)
+        };
+        assert_eq!(refusal(&[], 4), (Cause::EmptyPool, 0));
+        assert_eq!(refusal(&q()[..70], 4), (Cause::CutRecord, 59));
+        assert_eq!(refusal(&q(), 3), (Cause::ShortTable, 4));
+        assert_eq!(refusal(&q(), 0), (Cause::ShortTable, 4));
+        assert_eq!(table, [UNTOUCHED; 4]);
+    }
+
+    #[test]
+    fn faults_are_listed_as_far_as_they_fit() {
+        let mut faults = [NO_FAULT; 2];
+        let mut table = [UNTOUCHED; 4];
+        assert_eq!(check(&q(), &mut table, &mut faults), Ok(0));
+        assert_eq!(faults, [NO_FAULT; 2]);
+        assert_eq!(check(&q()[..59], &mut table, &mut faults), Ok(1));
+        let fault = Fault {
+            record: 3,
+            rule: 6,
+            item: 2,
+        };
+        assert_eq!(faults, [fault, NO_FAULT]);
+        // An element that is its own parent.
+        let mut own = p();
+        own[40] = 1;
+        assert_eq!(check(&own, &mut table, &mut []), Ok(1));
+    }
+
+    #[test]
+    fn a_text_is_a_part_of_the_pool() {
+        let pool = crate::pools::named();
+        let mut table = [UNTOUCHED; 3];
+        let designator = text(&pool, &mut table, 0).unwrap();
+        assert_eq!(designator, b"Spritze");
+        assert_eq!(designator.as_ptr(), &pool[6]);
+        assert_eq!(text(&pool, &mut table, 1), Ok(&b""[..]));
+        assert_eq!(text(&pool, &mut table, 9), Err(Cause::NoSuchId));
+        assert_eq!(text(&q()[..59], &mut table, 0), Err(Cause::Faulty));
+        assert_eq!(text(&[], &mut table, 0), Err(Cause::EmptyPool));
+    }
+
+    #[test]
+    fn labels_are_those_of_the_device() {
+        let pool = crate::pools::named();
+        let given = labels(&pool, &mut [UNTOUCHED; 2]).unwrap();
+        assert_eq!(given.structure, [1, 2, 3, 4, 5, 6, 7]);
+        assert_eq!(given.localization, [0x65, 0x6E, 1, 2, 3, 4, 0xFF]);
+        assert_eq!(given.extended(), [8, 9, 10]);
+        let short = labels(&pool, &mut [UNTOUCHED; 1]);
+        assert_eq!(short, Err(Cause::ShortTable));
+    }
+
+    #[test]
+    fn a_text_is_examined() {
+        assert!(text_is_sound(b""));
+        assert!(text_is_sound("Düngerstreuer".as_bytes()));
+        assert!(!text_is_sound(b"\xEF\xBB\xBF"));
+        assert!(!text_is_sound(&[b'a'; 33]));
+    }
+
+    #[test]
+    fn words_are_lent_as_a_table() {
+        let mut words = [7; 9];
+        assert_eq!(read(&p(), Record::table(&mut words)), Ok(2));
+        assert_eq!(words, [0, 31, 1, 0, 31, 13, 2, 1, 7]);
+        assert!(Record::table(&mut words[..3]).is_empty());
+    }
+}

@@ -1,0 +1,251 @@
+/*
+ * A terminal that receives the pool of a sprayer, activates it, exchanges process data and writes a log.
+ *
+ * Build: cc -std=c99 -Iinclude examples/terminal.c target/staticlib/libterminal.a -o terminal
+ */
+#include "lachsbrille.h"
+
+#include <inttypes.h>
+#include <stdio.h>
+#include <stdlib.h>
+
+/* All memory that calls are lent. A terminal of its own would take LACHSBRILLE_POOL_MOST bytes and
+ * LACHSBRILLE_RECORDS_MOST entries, so that no pool is too long for it. */
+enum { AREA = 512, ENTRIES = 16, FAULTS = 8, LOG = 256, VALUES = 8 };
+
+static uint8_t staging[AREA];
+static uint8_t kept[AREA];
+static lachsbrille_record table[ENTRIES];
+
+/* What the sprayer sends. */
+static const uint8_t sprayer[] = {
+    /* DVC, ID 0: designator, version, NAME, serial number, structure, localization and extended label */
+    'D', 'V', 'C', 0, 0, 7, 'S', 'p', 'r', 'a', 'y', 'e', 'r', 3, '1', '.', '0',
+    0x11, 0x22, 0x33, 0x44, 0x55, 0x66, 0x77, 0xA0, 2, '4', '2',
+    'B', 'O', 'O', 'M', '2', '4', 'M', 'e', 'n', 0x50, 0x00, 0x55, 0x00, 0xFF, 2, 'X', '1',
+    /* DET, ID 1: the device itself, element number 0, under the device, no entry */
+    'D', 'E', 'T', 1, 0, 1, 0, 0, 0, 0, 0, 0, 0,
+    /* DET, ID 2: a function, element number 1, under element 1, with the entries 3 and 4 */
+    'D', 'E', 'T', 2, 0, 2, 4, 'B', 'o', 'o', 'm', 1, 0, 1, 0, 2, 0, 3, 0, 4, 0,
+    /* DPD, ID 3: DDI 1, settable, sent by time and on change, shown by presentation 5 */
+    'D', 'P', 'D', 3, 0, 1, 0, 0x02, 0x09, 4, 'R', 'a', 't', 'e', 5, 0,
+    /* DPT, ID 4: DDI 134, -1500, shown as it is */
+    'D', 'P', 'T', 4, 0, 134, 0, 0x24, 0xFA, 0xFF, 0xFF, 6, 'O', 'f', 'f', 's', 'e', 't', 0xFF, 0xFF,
+    /* DVP, ID 5: offset 0, scale 0.0001, one decimal */
+    'D', 'V', 'P', 5, 0, 0, 0, 0, 0, 0x17, 0xB7, 0xD1, 0x38, 1, 4, 'l', '/', 'h', 'a'
+};
+
+/* Where the transfer is stopped: between two records, so that what has arrived looks like a whole pool. */
+enum { STOPPED_AFTER = 58 };
+
+/* Stops the program where a call gives another number than this terminal can go on with. */
+static void expect(const char *call, uint32_t number, uint32_t expected)
+{
+    if (number != expected) {
+        printf("%s gives %" PRIu32 " and not %" PRIu32 "\n", call, number, expected);
+        exit(EXIT_FAILURE);
+    }
+}
+
+/* Sends a part of the pool in pieces as short as a transport frame's. */
+static lachsbrille_client_session transfer(lachsbrille_client_session session, size_t from, size_t to)
+{
+    enum { PIECE = 7 };
+    size_t pieces = 0;
+
+    while (from < to) {
+        size_t length = to - from < PIECE ? to - from : PIECE;
+        lachsbrille_client_step step =
+            lachsbrille_session_transfer(session, sprayer + from, length, staging, sizeof staging);
+        expect("transfer", step.number, LACHSBRILLE_OK);
+        session = step.session;
+        from += length;
+        pieces += 1;
+    }
+    printf("%zu pieces, %zu of %zu bytes received\n", pieces, session.received, session.announced);
+    return session;
+}
+
+/* Receives the pool and activates it. The session that is returned is active. */
+static lachsbrille_client_session receive(void)
+{
+    lachsbrille_client_session session = lachsbrille_session_new();
+    lachsbrille_client_step step;
+
+    step = lachsbrille_session_offer(session, sizeof sprayer, staging, sizeof staging, kept, sizeof kept);
+    expect("offer", step.number, LACHSBRILLE_OK);
+    printf("offered: %zu bytes\n", step.session.announced);
+    session = transfer(step.session, 0, STOPPED_AFTER);
+
+    /* Not all has arrived. The offer stands, and the rest may follow. */
+    step = lachsbrille_session_activate(session, staging, sizeof staging, kept, sizeof kept, table, ENTRIES);
+    expect("activate", step.number, LACHSBRILLE_STOPPED_EARLY);
+    printf("activating now is refused with %" PRIu32 "\n", step.number);
+    session = transfer(step.session, STOPPED_AFTER, sizeof sprayer);
+
+    step = lachsbrille_session_activate(session, staging, sizeof staging, kept, sizeof kept, table, ENTRIES);
+    expect("activate", step.number, LACHSBRILLE_OK);
+    printf("active: %zu bytes are kept\n", step.session.kept);
+    return step.session;
+}
+
+/* Lists the records with their texts. */
+static void show_records(size_t pool_length)
+{
+    static const char *const marks[] = {"?", "DVC", "DET", "DPD", "DPT", "DVP"};
+    uint16_t faults[LACHSBRILLE_FAULT_WORDS * FAULTS];
+    size_t count, record;
+
+    expect("read", lachsbrille_read(kept, pool_length, table, ENTRIES, &count), LACHSBRILLE_OK);
+    for (record = 0; record < count; record++) {
+        uint16_t id = table[record].id;
+        size_t from, to;
+        expect("text", lachsbrille_text(kept, pool_length, table, ENTRIES, id, &from, &to), LACHSBRILLE_OK);
+        printf("%s %u at %u length %u \"%.*s\"\n", marks[table[record].kind], (unsigned)id,
+               (unsigned)table[record].start, (unsigned)table[record].length, (int)(to - from),
+               (const char *)kept + from);
+    }
+
+    /* A part of the pool is read, and has faults: its list of entries names records that are not there. */
+    expect("check",
+           lachsbrille_check(kept, table[3].start, table, ENTRIES, faults, sizeof faults / sizeof *faults, &count),
+           LACHSBRILLE_OK);
+    printf("the first three records alone have %zu faults, the first: record %u rule %u item %u\n", count,
+           (unsigned)faults[0], (unsigned)faults[1], (unsigned)faults[2]);
+}
+
+static void show_label(const char *name, const uint8_t *label, size_t length)
+{
+    size_t at;
+
+    printf("%s label", name);
+    for (at = 0; at < length; at++) {
+        printf(" %02X", (unsigned)label[at]);
+    }
+    printf("\n");
+}
+
+static void show_labels(size_t pool_length)
+{
+    lachsbrille_device_labels labels = lachsbrille_labels(kept, pool_length, table, ENTRIES);
+
+    expect("labels", labels.number, LACHSBRILLE_OK);
+    show_label("structure", labels.structure, sizeof labels.structure);
+    show_label("localization", labels.localization, sizeof labels.localization);
+    show_label("extended", labels.extended, labels.extended_length);
+}
+
+static void show_message(const uint8_t *bytes)
+{
+    lachsbrille_message_fields message = lachsbrille_message_read(bytes, LACHSBRILLE_MESSAGE_LENGTH);
+
+    expect("message read", message.number, LACHSBRILLE_OK);
+    if (message.command == LACHSBRILLE_ACKNOWLEDGE) {
+        printf("acknowledge: element %u, DDI %u, command %u, errors 0x%02X\n", (unsigned)message.element,
+               (unsigned)message.ddi, (unsigned)message.answered, (unsigned)message.errors);
+    } else {
+        printf("command %u: element %u, DDI %u, value %" PRId32 "\n", (unsigned)message.command,
+               (unsigned)message.element, (unsigned)message.ddi, message.value);
+    }
+}
+
+/* Judges a command by the pool: it is sent where the device takes it, else acknowledged with the error. */
+static void send_command(size_t pool_length, uint8_t command, uint16_t element, uint16_t ddi, int32_t value)
+{
+    uint8_t bytes[LACHSBRILLE_MESSAGE_LENGTH];
+    uint8_t error;
+
+    expect("judge", lachsbrille_judge(kept, pool_length, table, ENTRIES, command, element, ddi, value, &error),
+           LACHSBRILLE_OK);
+    if (error == 0) {
+        expect("value message", lachsbrille_message_write_value(bytes, sizeof bytes, command, element, ddi, value),
+               LACHSBRILLE_OK);
+    } else {
+        expect("acknowledge",
+               lachsbrille_message_write_acknowledge(bytes, sizeof bytes, element, ddi, error, command),
+               LACHSBRILLE_OK);
+    }
+    show_message(bytes);
+}
+
+/* Shows a rate as presentation 5 says it. */
+static void show_rate(int32_t rate)
+{
+    enum { DECIMALS = 1 };
+    double shown;
+
+    expect("displayed value", lachsbrille_displayed(rate, 0, 0.0001f, DECIMALS, &shown), LACHSBRILLE_OK);
+    printf("a rate of %" PRId32 " is shown as %.*f l/ha\n", rate, DECIMALS, shown);
+}
+
+/* Writes two log records of the rate and reads them back, by themselves and as a log. */
+static void keep_log(void)
+{
+    enum { LAYOUT = LACHSBRILLE_LAYOUT_NORTH | LACHSBRILLE_LAYOUT_EAST | LACHSBRILLE_LAYOUT_STATUS, LOGGED = 1 };
+    static const uint8_t ordinals[] = {0};
+    static uint8_t log[LOG];
+    lachsbrille_log_fields fields = {
+        .time = 43200000, .days = 16000, .north = 521234567, .east = 104567890, .status = 4};
+    lachsbrille_log_marks marks = lachsbrille_log_optional_fields(LAYOUT);
+    lachsbrille_log_outcome outcome;
+    size_t length = 0, at = 0;
+    int32_t rate;
+
+    expect("optional fields", marks.number, LACHSBRILLE_OK);
+    printf("the log's layout marks %" PRIu32 " fields\n", marks.count);
+    for (rate = 1980000; rate <= 2000000; rate += 20000) {
+        lachsbrille_log_written written = lachsbrille_log_write_record(
+            log + length, sizeof log - length, LAYOUT, fields, LOGGED, ordinals, 1, &rate, 1, 1);
+        expect("log record written", written.number, LACHSBRILLE_OK);
+        length += written.length;
+        fields.time += 1000;
+    }
+
+    outcome = lachsbrille_log_read(log, length, LAYOUT, LOGGED);
+    expect("log read", outcome.number, LACHSBRILLE_OK);
+    printf("the log has %zu records in %zu bytes\n", outcome.count, length);
+    while (at < length) {
+        uint8_t found[VALUES];
+        int32_t values[VALUES];
+        lachsbrille_log_record record =
+            lachsbrille_log_read_record(log + at, length - at, LAYOUT, LOGGED, found, VALUES, values, VALUES);
+        expect("log record read", record.number, LACHSBRILLE_OK);
+        printf("at %zu: time %" PRIu32 ", north %" PRId32 ", east %" PRId32 ", status %u, value %u is %" PRId32 "\n",
+               at, record.fields.time, record.fields.north, record.fields.east, (unsigned)record.fields.status,
+               (unsigned)found[0], values[0]);
+        at += record.length;
+    }
+
+    outcome = lachsbrille_log_read(log, length - 1, LAYOUT, LOGGED);
+    expect("cut log", outcome.number, LACHSBRILLE_CUT_LOG_RECORD);
+    printf("without its last byte it is refused with %" PRIu32 " at %zu\n", outcome.number, outcome.start);
+}
+
+int main(void)
+{
+    lachsbrille_client_session session = receive();
+    lachsbrille_client_step step;
+
+    show_records(session.kept);
+    show_labels(session.kept);
+    send_command(session.kept, LACHSBRILLE_VALUE, 1, 1, 2000000);
+    send_command(session.kept, LACHSBRILLE_TIME_INTERVAL, 1, 1, 1000);
+    send_command(session.kept, LACHSBRILLE_VALUE, 1, 134, 0);
+    send_command(session.kept, LACHSBRILLE_DISTANCE_INTERVAL, 1, 1, 1000);
+    send_command(session.kept, LACHSBRILLE_VALUE, 2, 1, 2000000);
+    show_rate(2000000);
+    keep_log();
+
+    /* The connection is lost and comes back: the kept pool is activated without being sent again. */
+    step = lachsbrille_session_lost(session);
+    expect("lost", step.number, LACHSBRILLE_OK);
+    step = lachsbrille_session_activate(step.session, staging, sizeof staging, kept, sizeof kept, table, ENTRIES);
+    expect("activate", step.number, LACHSBRILLE_OK);
+    printf("active again without a transfer\n");
+    step = lachsbrille_session_deactivate(step.session);
+    expect("deactivate", step.number, LACHSBRILLE_OK);
+    step = lachsbrille_session_delete(step.session);
+    expect("delete", step.number, LACHSBRILLE_OK);
+    printf("deleted: %zu bytes are kept\n", step.session.kept);
+    return EXIT_SUCCESS;
+}

@@ -1,0 +1,51 @@
+//! A message read, and a value message and an acknowledge written.
+
+use crate::bytes::Bytes;
+use compare::exchange::{read_by_both, write_by_both};
+use second::Message;
+
+/// Messages are lent at most so many bytes.
+const LONGEST: usize = 20;
+
+pub fn compare(bytes: &mut Bytes) -> Result<(), String> {
+    let room = usize::from(bytes.byte()) % (LONGEST + 1);
+    let command = bytes.byte();
+    let (element, ddi) = (bytes.word(), bytes.word());
+    let value = bytes.signed();
+    let (errors, answered) = (bytes.byte(), bytes.byte());
+    write(
+        room,
+        Message::Value {
+            command,
+            element,
+            ddi,
+            value,
+        },
+    )?;
+    write(
+        room,
+        Message::Acknowledge {
+            element,
+            ddi,
+            errors,
+            answered,
+        },
+    )?;
+    read(bytes.rest())
+}
+
+/// What both write is read back by both.
+fn write(room: usize, message: Message) -> Result<(), String> {
+    match write_by_both(message, room) {
+        Ok(Ok(written)) => read(&written),
+        Ok(Err(_)) => Ok(()),
+        Err(what) => Err(format!("{message:?} into {room} bytes: {what}")),
+    }
+}
+
+fn read(message: &[u8]) -> Result<(), String> {
+    match read_by_both(message) {
+        Ok(_) => Ok(()),
+        Err(what) => Err(format!("reading {message:02X?}: {what}")),
+    }
+}

@@ -1,0 +1,437 @@
+/*
+ * Lachsbrille: the proved core of a task controller after ISO 11783-10, for C99 and C++11.
+ *
+ * Link with target/staticlib/libterminal.a, which `rt staticlib terminal` builds. It needs memcpy and memset of the platform,
+ * and nothing else.
+ *
+ * Lent memory. A slice is a pointer and a length, which counts items and not bytes. The pointer of an empty slice must not be
+ * null, but may be anything that is aligned for an item. All that is lent to one call must lie apart: no two areas, nor an area
+ * and a lent number, may overlap. A call uses what it is lent only until it returns.
+ *
+ * State. There is no heap, no global variable and no lock: a call depends on its arguments and on what they lend, so any
+ * number of calls may run at once as long as they share no memory that one of them writes.
+ *
+ * Stack. A function without a table takes less than 1 KB, reading takes 44 KB. Checking, a text, the labels and activating take
+ * 115 KB at most for a sound pool whose IDs are below 8,192, and 525 KB at most for any; a judgement takes 612 KB at most.
+ *
+ * Refusals. A call gives 0 or a refusal's number; where several apply, the one that stands first in its list below. Unless said
+ * otherwise a refusal changes no lent memory, and lent numbers and the fields of a returned struct are 0.
+ *
+ * Counting. Positions count from 0, records from 1.
+ */
+#ifndef LACHSBRILLE_H
+#define LACHSBRILLE_H
+
+#include <stdbool.h>
+#include <stddef.h>
+#include <stdint.h>
+
+#ifdef __cplusplus
+extern "C" {
+#endif
+
+/* ---- Numbers ------------------------------------------------------------------------------------------------------- */
+
+/* Why a call is refused. */
+enum lachsbrille_refusal {
+    LACHSBRILLE_OK = 0,
+
+    /* A pool is not read. */
+    LACHSBRILLE_EMPTY_POOL = 1,   /* it has no byte */
+    LACHSBRILLE_LONG_POOL = 2,    /* it has over 65,535 bytes */
+    LACHSBRILLE_NO_MARK = 3,      /* a record should begin, and there is none of the five marks */
+    LACHSBRILLE_CUT_RECORD = 4,   /* it ends inside a record */
+    LACHSBRILLE_LONG_TEXT = 5,    /* a length byte is over its limit */
+    LACHSBRILLE_MANY_RECORDS = 6, /* it has over 8,192 records; proved never to happen */
+    LACHSBRILLE_SHORT_TABLE = 7,  /* the pool has more records than the table has entries */
+
+    /* A session call. */
+    LACHSBRILLE_BAD_SIZE = 20,           /* the size offered is 0 or over 65,535 */
+    LACHSBRILLE_NOTHING_OFFERED = 21,    /* nothing is offered, nor kept where activating looks for it */
+    LACHSBRILLE_BAD_PIECE = 22,          /* a piece is empty or longer than what is still to come */
+    LACHSBRILLE_STOPPED_EARLY = 23,      /* fewer bytes arrived than were announced */
+    LACHSBRILLE_FAULTY = 24,             /* the pool has a fault; also of texts, labels and judgements */
+    LACHSBRILLE_NOT_ACTIVE = 25,         /* nothing is active */
+    LACHSBRILLE_SHORT_AREA = 26,         /* an area is too short */
+    LACHSBRILLE_IMPOSSIBLE_SESSION = 27, /* calls do not lead to this session value */
+
+    /* A text. */
+    LACHSBRILLE_NO_SUCH_ID = 28, /* no record has the ID */
+
+    /* A process data message, or a command that is judged. */
+    LACHSBRILLE_NOT_EIGHT_BYTES = 30,     /* the message has not eight bytes */
+    LACHSBRILLE_BAD_COMMAND = 31,         /* the command is none that is read or written here */
+    LACHSBRILLE_BAD_ELEMENT = 32,         /* the element number is over 4,095 or the answered command over 15 */
+    LACHSBRILLE_NO_ROOM_FOR_MESSAGE = 33, /* fewer than eight bytes are lent */
+
+    /* A log record or a log. */
+    LACHSBRILLE_CUT_LOG_RECORD = 40,         /* the bytes end inside the record */
+    LACHSBRILLE_BAD_TIME = 41,               /* the time of day is over 86,399,999 ms */
+    LACHSBRILLE_BAD_NORTH = 42,              /* north is beyond 900,000,000 either way */
+    LACHSBRILLE_BAD_EAST = 43,               /* east is beyond 1,800,000,000 either way */
+    LACHSBRILLE_BAD_STATUS = 44,             /* the position status is not 0 to 8, 14 or 15 */
+    LACHSBRILLE_BAD_ORDINAL = 45,            /* an ordinal is not below the header's count of log values */
+    LACHSBRILLE_NO_ROOM_FOR_LOG_RECORD = 46, /* a list lent for reading, or the bytes lent for writing, are too short */
+    LACHSBRILLE_BAD_LAYOUT = 47,             /* the layout has a bit above 8 */
+    LACHSBRILLE_MANY_LOG_VALUES = 48,        /* a record is to have over 255 values, or more than a list has */
+
+    /* A displayed value. */
+    LACHSBRILLE_BAD_PRESENTATION = 50 /* the scale or the decimals are out of range */
+};
+
+/* The kinds of records. */
+enum lachsbrille_kind {
+    LACHSBRILLE_DVC = 1, /* device */
+    LACHSBRILLE_DET = 2, /* device element */
+    LACHSBRILLE_DPD = 3, /* process data */
+    LACHSBRILLE_DPT = 4, /* property */
+    LACHSBRILLE_DVP = 5  /* value presentation */
+};
+
+/* Where a session's transfer stands. */
+enum lachsbrille_stage { LACHSBRILLE_STAGE_NONE = 0, LACHSBRILLE_STAGE_OFFERED = 1 };
+
+/* The commands of messages. All but the acknowledge carry a value. */
+enum lachsbrille_command {
+    LACHSBRILLE_REQUEST_VALUE = 2,
+    LACHSBRILLE_VALUE = 3,
+    LACHSBRILLE_TIME_INTERVAL = 4,
+    LACHSBRILLE_DISTANCE_INTERVAL = 5,
+    LACHSBRILLE_LEAST_THRESHOLD = 6,
+    LACHSBRILLE_GREATEST_THRESHOLD = 7,
+    LACHSBRILLE_CHANGE_THRESHOLD = 8,
+    LACHSBRILLE_SET_AND_ACKNOWLEDGE = 10,
+    LACHSBRILLE_ACKNOWLEDGE = 13
+};
+
+/* The error byte of a judgement: the first that applies. An acknowledge carries the same bits. */
+enum lachsbrille_error {
+    LACHSBRILLE_ERROR_COMMAND = 0x01,  /* the command is none that carries a value */
+    LACHSBRILLE_ERROR_ELEMENT = 0x02,  /* there is no such device element */
+    LACHSBRILLE_ERROR_DDI = 0x04,      /* its list has no process data or property of that DDI */
+    LACHSBRILLE_ERROR_TRIGGER = 0x08,  /* the trigger method of commands 4 to 8 is not offered */
+    LACHSBRILLE_ERROR_SETTABLE = 0x10, /* commands 3 and 10, and it is not settable */
+    LACHSBRILLE_ERROR_INTERVAL = 0x20  /* commands 4 and 5 with a negative value */
+};
+
+/* The optional fields of a log record that a layout marks. */
+enum lachsbrille_layout {
+    LACHSBRILLE_LAYOUT_NORTH = 0x001,
+    LACHSBRILLE_LAYOUT_EAST = 0x002,
+    LACHSBRILLE_LAYOUT_UP = 0x004,
+    LACHSBRILLE_LAYOUT_STATUS = 0x008,
+    LACHSBRILLE_LAYOUT_PDOP = 0x010,
+    LACHSBRILLE_LAYOUT_HDOP = 0x020,
+    LACHSBRILLE_LAYOUT_SATELLITES = 0x040,
+    LACHSBRILLE_LAYOUT_GPS_TIME = 0x080,
+    LACHSBRILLE_LAYOUT_GPS_DATE = 0x100,
+    LACHSBRILLE_LAYOUT_ALL = 0x1FF
+};
+
+/* Sizes. */
+enum lachsbrille_size {
+    LACHSBRILLE_RECORDS_MOST = 5461,   /* records of a pool, 12 bytes being the least: a table of so many is never too short */
+    LACHSBRILLE_FAULT_WORDS = 3,       /* words of a fault in the fault buffer */
+    LACHSBRILLE_MESSAGE_LENGTH = 8,    /* bytes of a message */
+    LACHSBRILLE_ELEMENT_MOST = 4095,   /* the greatest element number */
+    LACHSBRILLE_LOG_VALUES_MOST = 255, /* values of a log record */
+    LACHSBRILLE_LOG_RECORD_MOST = 1306 /* bytes of a log record */
+};
+
+/* Bytes of a pool at most. No enumerator, since an int may be too short for it. */
+#define LACHSBRILLE_POOL_MOST 65535u
+
+/* The ID of no record: a presentation of this ID means none. */
+#define LACHSBRILLE_NO_ID 65535u
+
+/* ---- Pools --------------------------------------------------------------------------------------------------------- */
+
+/* A record of a pool: an entry of the working table. */
+typedef struct lachsbrille_record {
+    uint16_t start;
+    uint16_t length;
+    uint16_t kind; /* enum lachsbrille_kind */
+    uint16_t id;
+} lachsbrille_record;
+
+/* The labels of a device. */
+typedef struct lachsbrille_device_labels {
+    uint32_t number;
+    uint8_t structure[7];
+    uint8_t localization[7];
+    uint8_t extended[32];
+    uint16_t extended_length; /* bytes of the extended label that are used; the others are 0 */
+} lachsbrille_device_labels;
+
+/*
+ * Reads a pool: divides it into records and lists them in the table.
+ *
+ * 0: `value` is the count of records, and the table starts with them; later entries stay.
+ * 1 to 7: `value` is the place: 0 for 1, 2 and 6; where the record starts for 3 and 4; the length byte for 5; the entries
+ * that the table needs for 7. Of 3, 4 and 5 the earliest bad record decides. The table stays.
+ */
+uint32_t lachsbrille_read(const uint8_t *pool, size_t pool_length,
+                          lachsbrille_record *table, size_t table_length,
+                          size_t *value);
+
+/*
+ * Checks a pool against the rule table. README.md has the rules and their items.
+ *
+ * The fault buffer is words: record, rule and item of the first fault, then of the second, and so on. Its length counts words.
+ *
+ * 0: `value` is the full count of faults; a pool is accepted where it is 0. The buffer starts with the faults in the order of
+ * record, rule and item, as many as fit; its other words stay. The table is filled as in reading.
+ * 1 to 7: as in reading, and the buffer stays.
+ */
+uint32_t lachsbrille_check(const uint8_t *pool, size_t pool_length,
+                           lachsbrille_record *table, size_t table_length,
+                           uint16_t *faults, size_t faults_length,
+                           size_t *value);
+
+/* Whether a text keeps rule 4: well-formed UTF-8 without a byte order mark in front, of at most 32 characters. */
+bool lachsbrille_text_is_sound(const uint8_t *text, size_t text_length);
+
+/*
+ * The designator or unit text of the first record with an ID. The pool must be accepted; it is checked on every call, so that
+ * no earlier check can be out of date.
+ *
+ * 0: the text is pool[from] up to, and without, pool[to]; an empty text has from equal to to.
+ * 1 to 7: the pool is not read, and the table stays.
+ * 24: it has a fault. 28: no record has the ID. The table is filled as in reading after 0, 24 and 28.
+ */
+uint32_t lachsbrille_text(const uint8_t *pool, size_t pool_length,
+                          lachsbrille_record *table, size_t table_length,
+                          uint16_t id,
+                          size_t *from, size_t *to);
+
+/*
+ * The structure label, the localization label and the extended structure label of the device. The pool must be accepted.
+ *
+ * number 0: the labels. 1 to 7: the pool is not read, and the table stays. 24: it has a fault.
+ * The table is filled as in reading after 0 and 24.
+ */
+lachsbrille_device_labels lachsbrille_labels(const uint8_t *pool, size_t pool_length,
+                                             lachsbrille_record *table, size_t table_length);
+
+/* ---- Sessions ------------------------------------------------------------------------------------------------------ */
+
+/*
+ * One client's session. Begin with lachsbrille_session_new, and hand each call the value that the last one returned, with the
+ * same two areas: staging, into which pieces are written, and kept, into which an accepted pool is copied. Between calls
+ * leave the value and the areas as they are; what a session promises rests on it.
+ */
+typedef struct lachsbrille_client_session {
+    uint32_t stage;   /* enum lachsbrille_stage */
+    uint32_t active;  /* 0 or 1 */
+    size_t announced; /* bytes of the pool that is offered */
+    size_t received;  /* bytes that have arrived of it */
+    size_t kept;      /* bytes of the pool that the kept area starts with */
+} lachsbrille_client_session;
+
+/*
+ * What a session call leaves and answers. After a refusal `session` is the value as it was given, except where activating
+ * says otherwise. `place`, `record`, `rule` and `item` are 0 unless activating sets them.
+ */
+typedef struct lachsbrille_client_step {
+    lachsbrille_client_session session;
+    uint32_t number;
+    size_t place;
+    uint16_t record;
+    uint16_t rule;
+    uint16_t item;
+} lachsbrille_client_step;
+
+/* A new session: nothing offered, kept or active. */
+lachsbrille_client_session lachsbrille_session_new(void);
+
+/*
+ * Announces the size of a pool. An earlier offer is forgotten. Of the areas only the lengths matter; both stay.
+ *
+ * 0: offered, and nothing received.
+ * 27: the session value can't arise. 20: the size is 0 or over 65,535. 26: an area is shorter than the size.
+ */
+lachsbrille_client_step lachsbrille_session_offer(lachsbrille_client_session session,
+                                                  size_t size,
+                                                  const uint8_t *staging, size_t staging_length,
+                                                  const uint8_t *kept, size_t kept_length);
+
+/*
+ * Takes a piece of the pool into staging, behind what has been received. Every other byte of staging stays.
+ *
+ * 0: the piece is received.
+ * 27: the session value can't arise. 21: nothing is offered. 22: the piece is empty or longer than what is still to come.
+ * 26: staging is shorter than announced.
+ */
+lachsbrille_client_step lachsbrille_session_transfer(lachsbrille_client_session session,
+                                                     const uint8_t *piece, size_t piece_length,
+                                                     uint8_t *staging, size_t staging_length);
+
+/*
+ * Activates the pool that is offered, or else the one that is kept.
+ *
+ * 0: active. After an offer the kept area starts with the pool and its other bytes stay, the stage is none and the table is
+ * filled as in reading. Where nothing was offered the kept pool is active again, and neither it nor the table is looked at.
+ * 27: the session value can't arise.
+ * 21: nothing is offered and nothing kept.
+ * 23: fewer bytes arrived than were announced. The offer stands, so the rest may follow.
+ * 26: the kept area is shorter than the pool, or with an offer staging is. An offer stands.
+ * 3 to 6: the pool is not read, `place` as in reading. The offer is over. (1 and 2 can't come, for the size was judged.)
+ * 7: the table is too short, `place` says how many entries it needs. The offer stands: try again with a longer table.
+ * 24: the pool has a fault; `record`, `rule` and `item` are the first one. The offer is over. The table is filled.
+ * After every refusal the kept area, the kept size and `active` stay: the earlier pool remains in force.
+ */
+lachsbrille_client_step lachsbrille_session_activate(lachsbrille_client_session session,
+                                                     const uint8_t *staging, size_t staging_length,
+                                                     uint8_t *kept, size_t kept_length,
+                                                     lachsbrille_record *table, size_t table_length);
+
+/* Ends being active; all else stays. 27: the session value can't arise. 25: nothing is active. */
+lachsbrille_client_step lachsbrille_session_deactivate(lachsbrille_client_session session);
+
+/* Forgets the pool that is kept, and an offer. 27: the session value can't arise. */
+lachsbrille_client_step lachsbrille_session_delete(lachsbrille_client_session session);
+
+/* The connection is lost: not active, an offer is forgotten, a kept pool stays kept. 27: the session value can't arise. */
+lachsbrille_client_step lachsbrille_session_lost(lachsbrille_client_session session);
+
+/* ---- Process data messages ----------------------------------------------------------------------------------------- */
+
+/* A message that was read. A value message has errors and answered 0, an acknowledge (command 13) has value 0. */
+typedef struct lachsbrille_message_fields {
+    uint32_t number;
+    uint8_t command;  /* enum lachsbrille_command */
+    uint16_t element; /* element number */
+    uint16_t ddi;
+    int32_t value;
+    uint8_t errors;   /* enum lachsbrille_error, any of them together */
+    uint8_t answered; /* the command that is acknowledged */
+} lachsbrille_message_fields;
+
+/* Reads a message. number 0: its fields. 30: not eight bytes. 31: a command other than 2 to 8, 10 and 13. */
+lachsbrille_message_fields lachsbrille_message_read(const uint8_t *bytes, size_t bytes_length);
+
+/*
+ * Writes a value message into the first eight bytes; the others stay.
+ *
+ * 31: a command other than 2 to 8 and 10. 32: the element number is over 4,095. 33: fewer than eight bytes are lent.
+ */
+uint32_t lachsbrille_message_write_value(uint8_t *to, size_t to_length,
+                                         uint8_t command, uint16_t element, uint16_t ddi, int32_t value);
+
+/*
+ * Writes an acknowledge into the first eight bytes; the others stay.
+ *
+ * 32: the element number is over 4,095 or the answered command over 15. 33: fewer than eight bytes are lent.
+ */
+uint32_t lachsbrille_message_write_acknowledge(uint8_t *to, size_t to_length,
+                                               uint16_t element, uint16_t ddi, uint8_t errors, uint8_t answered);
+
+/*
+ * Judges a command to the device: whether its pool lets it take the command. The pool must be accepted.
+ *
+ * 0: `error` is the error byte, 0 where the device takes the command. A command that is unknown is error 0x01, no refusal.
+ * 32: the element number is over 4,095; judged before the pool, and the table stays.
+ * 1 to 7: the pool is not read, and the table stays. 24: it has a fault.
+ * The table is filled as in reading after 0 and 24.
+ */
+uint32_t lachsbrille_judge(const uint8_t *pool, size_t pool_length,
+                           lachsbrille_record *table, size_t table_length,
+                           uint8_t command, uint16_t element, uint16_t ddi, int32_t value,
+                           uint8_t *error);
+
+/* ---- Displayed value ----------------------------------------------------------------------------------------------- */
+
+/*
+ * The value that a display shows by a value presentation: (value + offset) times scale. Only the product is rounded, once.
+ * The decimals are judged and change nothing: how many digits are drawn is the display's.
+ *
+ * 0: `result` is the value.
+ * 50: the scale's bits are outside 0x322BCC77 to 0x4CBEBC20 (about 1e-8 to 1e8, no NaN), or the decimals are over 7.
+ */
+uint32_t lachsbrille_displayed(int32_t value, int32_t offset, float scale, uint8_t decimals, double *result);
+
+/* ---- Time log ------------------------------------------------------------------------------------------------------ */
+
+/* The fields of a log record. One that the layout does not mark is 0 when read, and neither judged nor written. */
+typedef struct lachsbrille_log_fields {
+    uint32_t time; /* of day, in ms */
+    uint16_t days; /* since 1980-01-01 */
+    int32_t north; /* 1e-7 degrees */
+    int32_t east;  /* 1e-7 degrees */
+    int32_t up;
+    uint8_t status; /* of the position; 15 means that it is missing */
+    uint16_t pdop;
+    uint16_t hdop;
+    uint8_t satellites;
+    uint32_t gps_time;
+    uint16_t gps_date;
+} lachsbrille_log_fields;
+
+/* How many optional fields a layout marks. */
+typedef struct lachsbrille_log_marks {
+    uint32_t number;
+    uint32_t count;
+} lachsbrille_log_marks;
+
+/* A log record that was read. */
+typedef struct lachsbrille_log_record {
+    uint32_t number;
+    size_t length; /* bytes that it takes */
+    size_t count;  /* ordinals and values that it has */
+    lachsbrille_log_fields fields;
+} lachsbrille_log_record;
+
+/* A log record that was written. */
+typedef struct lachsbrille_log_written {
+    uint32_t number;
+    size_t length; /* bytes that it takes */
+} lachsbrille_log_written;
+
+/* A log that was read. */
+typedef struct lachsbrille_log_outcome {
+    uint32_t number;
+    size_t count; /* of its records */
+    size_t start; /* where the record of a refusal starts */
+} lachsbrille_log_outcome;
+
+/* How many optional fields a layout marks. number 0: the count. 47: the layout has a bit above 8. */
+lachsbrille_log_marks lachsbrille_log_optional_fields(uint16_t layout);
+
+/*
+ * Reads the log record that the bytes start with. `logged` is the log header's count of log values.
+ *
+ * number 0: length, count and fields. Both lists start with the record's ordinals and values; their other items stay.
+ * 47: the layout has a bit above 8. 40: the bytes end inside the record. 41 to 45, in field order: time, north, east, status
+ * or an ordinal is out of range. 46: a list is shorter than count.
+ */
+lachsbrille_log_record lachsbrille_log_read_record(const uint8_t *bytes, size_t bytes_length,
+                                                   uint16_t layout, size_t logged,
+                                                   uint8_t *ordinals, size_t ordinals_length,
+                                                   int32_t *values, size_t values_length);
+
+/*
+ * Writes a log record of the first `count` ordinals and values. `logged` is the log header's count of log values.
+ *
+ * number 0: its length; the bytes behind it stay.
+ * 47: the layout has a bit above 8. 48: count is over 255 or over a list's length. 41 to 45, in field order: time, north,
+ * east, status or an ordinal is out of range. 46: fewer bytes are lent than the record takes.
+ */
+lachsbrille_log_written lachsbrille_log_write_record(uint8_t *to, size_t to_length,
+                                                     uint16_t layout, lachsbrille_log_fields fields, size_t logged,
+                                                     const uint8_t *ordinals, size_t ordinals_length,
+                                                     const int32_t *values, size_t values_length,
+                                                     size_t count);
+
+/*
+ * Reads a log: records to its end, or none.
+ *
+ * number 0: the count of records. 47: the layout has a bit above 8. 40 to 45: as in reading a record, for the first record
+ * that is refused; `start` is where it begins, and count is 0.
+ */
+lachsbrille_log_outcome lachsbrille_log_read(const uint8_t *bytes, size_t bytes_length, uint16_t layout, size_t logged);
+
+#ifdef __cplusplus
+}
+#endif
+
+#endif

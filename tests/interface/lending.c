@@ -1,0 +1,301 @@
+/*
+ * Stands between a C program and the library (ld --wrap): each slice and each lent number is copied into memory of exactly its
+ * size, lent from there and copied back. What must not be written is compared; what lies around is watched. LENT says how:
+ *
+ *   canaries   between known bytes, which are compared after the call (the usual)
+ *   end        right before a page that nobody may touch: a byte read or written behind it ends the program
+ *   start      right behind such a page: likewise for a byte before it
+ *   heap       in blocks of their own, for the address sanitizer
+ *
+ * The sanitizer sees what the C program does, and memcpy and memset of the library; the library's other accesses are not
+ * instrumented. The pages see those too.
+ */
+#define _DEFAULT_SOURCE
+#include "lachsbrille.h"
+
+#include <stdio.h>
+#include <stdlib.h>
+#include <string.h>
+#include <sys/mman.h>
+#include <unistd.h>
+
+enum { LOANS = 6, CANARY = 64, ROOM = 1 << 20, CANARY_BYTE = 0xC7 };
+
+typedef struct {
+    const void *own;
+    void *to_own; /* null where the call must not write */
+    unsigned char *base, *lent;
+    size_t base_size, size;
+} loan;
+
+static loan loans[LOANS];
+static size_t lent_now;
+
+static void fail(const char *what)
+{
+    printf("lent memory: %s\n", what);
+    fflush(stdout);
+    abort();
+}
+
+static const char *manner(void)
+{
+    const char *wanted = getenv("LENT");
+    return wanted == NULL ? "canaries" : wanted;
+}
+
+/* Memory for a loan by canaries, all of it aligned for any item. */
+static unsigned char *canary_room(size_t number)
+{
+    static union {
+        long double alignment;
+        unsigned char bytes[LOANS][ROOM];
+    } rooms;
+    return rooms.bytes[number];
+}
+
+static void place(loan *it)
+{
+    if (strcmp(manner(), "canaries") == 0) {
+        it->base_size = it->size + 2 * CANARY;
+        if (it->base_size > ROOM) {
+            fail("too much at once");
+        }
+        it->base = canary_room((size_t)(it - loans));
+        it->lent = it->base + CANARY;
+        memset(it->base, CANARY_BYTE, it->base_size);
+    } else if (strcmp(manner(), "heap") == 0) {
+        /* Of nothing, the end of a block is lent: aligned, and not to be touched. */
+        it->base_size = it->size == 0 ? 16 : it->size;
+        it->base = (unsigned char *)malloc(it->base_size);
+        if (it->base == NULL) {
+            fail("there is no more");
+        }
+        it->lent = it->base + (it->base_size - it->size);
+    } else if (strcmp(manner(), "end") == 0 || strcmp(manner(), "start") == 0) {
+        size_t page = (size_t)sysconf(_SC_PAGESIZE);
+        size_t inner = (it->size + page - 1) / page * page;
+        it->base_size = inner + 2 * page;
+        it->base = (unsigned char *)mmap(NULL, it->base_size, PROT_NONE, MAP_PRIVATE | MAP_ANONYMOUS, -1, 0);
+        if (it->base == MAP_FAILED || (inner != 0 && mprotect(it->base + page, inner, PROT_READ | PROT_WRITE) != 0)) {
+            fail("there are no pages");
+        }
+        it->lent = it->base + page + (manner()[0] == 'e' ? inner - it->size : 0);
+    } else {
+        fail("LENT is none of canaries, end, start, heap");
+    }
+}
+
+static void release(loan *it)
+{
+    size_t at;
+
+    if (strcmp(manner(), "canaries") == 0) {
+        for (at = 0; at < CANARY; at++) {
+            if (it->base[at] != CANARY_BYTE) {
+                fail("a byte before it was written");
+            }
+            if (it->lent[it->size + at] != CANARY_BYTE) {
+                fail("a byte behind it was written");
+            }
+        }
+    } else if (strcmp(manner(), "heap") == 0) {
+        free(it->base);
+    } else {
+        munmap(it->base, it->base_size);
+    }
+}
+
+static void *lend(const void *own, void *to_own, size_t items, size_t item)
+{
+    loan *it;
+
+    if (lent_now == LOANS) {
+        fail("too many at once");
+    }
+    it = &loans[lent_now++];
+    it->own = own;
+    it->to_own = to_own;
+    it->size = items * item;
+    place(it);
+    memcpy(it->lent, own, it->size);
+    return it->lent;
+}
+
+static void take_back(void)
+{
+    while (lent_now > 0) {
+        loan *it = &loans[--lent_now];
+        if (it->to_own != NULL) {
+            memcpy(it->to_own, it->lent, it->size);
+        } else if (memcmp(it->own, it->lent, it->size) != 0) {
+            fail("what was lent to be read was written");
+        }
+        release(it);
+    }
+}
+
+#define READ(type, own, length) ((const type *)lend(own, NULL, length, sizeof *(own)))
+#define WRITE(type, own, length) ((type *)lend(own, own, length, sizeof *(own)))
+
+/* Makes the call with what was lent, and gives its answer when all has been taken back. */
+#define PASS(type, call)        \
+    do {                        \
+        type answer_ = call;    \
+        take_back();            \
+        return answer_;         \
+    } while (0)
+
+uint32_t __real_lachsbrille_read(const uint8_t *, size_t, lachsbrille_record *, size_t, size_t *);
+uint32_t __wrap_lachsbrille_read(const uint8_t *pool, size_t pool_length, lachsbrille_record *table, size_t table_length,
+                                 size_t *value)
+{
+    const uint8_t *p = READ(uint8_t, pool, pool_length);
+    lachsbrille_record *t = WRITE(lachsbrille_record, table, table_length);
+    PASS(uint32_t, __real_lachsbrille_read(p, pool_length, t, table_length, WRITE(size_t, value, 1)));
+}
+
+uint32_t __real_lachsbrille_check(const uint8_t *, size_t, lachsbrille_record *, size_t, uint16_t *, size_t, size_t *);
+uint32_t __wrap_lachsbrille_check(const uint8_t *pool, size_t pool_length, lachsbrille_record *table, size_t table_length,
+                                  uint16_t *faults, size_t faults_length, size_t *value)
+{
+    const uint8_t *p = READ(uint8_t, pool, pool_length);
+    lachsbrille_record *t = WRITE(lachsbrille_record, table, table_length);
+    uint16_t *f = WRITE(uint16_t, faults, faults_length);
+    PASS(uint32_t,
+         __real_lachsbrille_check(p, pool_length, t, table_length, f, faults_length, WRITE(size_t, value, 1)));
+}
+
+bool __real_lachsbrille_text_is_sound(const uint8_t *, size_t);
+bool __wrap_lachsbrille_text_is_sound(const uint8_t *text, size_t text_length)
+{
+    PASS(bool, __real_lachsbrille_text_is_sound(READ(uint8_t, text, text_length), text_length));
+}
+
+uint32_t __real_lachsbrille_text(const uint8_t *, size_t, lachsbrille_record *, size_t, uint16_t, size_t *, size_t *);
+uint32_t __wrap_lachsbrille_text(const uint8_t *pool, size_t pool_length, lachsbrille_record *table, size_t table_length,
+                                 uint16_t id, size_t *from, size_t *to)
+{
+    const uint8_t *p = READ(uint8_t, pool, pool_length);
+    lachsbrille_record *t = WRITE(lachsbrille_record, table, table_length);
+    size_t *f = WRITE(size_t, from, 1);
+    PASS(uint32_t, __real_lachsbrille_text(p, pool_length, t, table_length, id, f, WRITE(size_t, to, 1)));
+}
+
+lachsbrille_device_labels __real_lachsbrille_labels(const uint8_t *, size_t, lachsbrille_record *, size_t);
+lachsbrille_device_labels __wrap_lachsbrille_labels(const uint8_t *pool, size_t pool_length, lachsbrille_record *table,
+                                                    size_t table_length)
+{
+    const uint8_t *p = READ(uint8_t, pool, pool_length);
+    lachsbrille_record *t = WRITE(lachsbrille_record, table, table_length);
+    PASS(lachsbrille_device_labels, __real_lachsbrille_labels(p, pool_length, t, table_length));
+}
+
+lachsbrille_client_step __real_lachsbrille_session_offer(lachsbrille_client_session, size_t, const uint8_t *, size_t,
+                                                         const uint8_t *, size_t);
+lachsbrille_client_step __wrap_lachsbrille_session_offer(lachsbrille_client_session session, size_t size,
+                                                         const uint8_t *staging, size_t staging_length,
+                                                         const uint8_t *kept, size_t kept_length)
+{
+    const uint8_t *s = READ(uint8_t, staging, staging_length), *k = READ(uint8_t, kept, kept_length);
+    PASS(lachsbrille_client_step,
+         __real_lachsbrille_session_offer(session, size, s, staging_length, k, kept_length));
+}
+
+lachsbrille_client_step __real_lachsbrille_session_transfer(lachsbrille_client_session, const uint8_t *, size_t, uint8_t *,
+                                                            size_t);
+lachsbrille_client_step __wrap_lachsbrille_session_transfer(lachsbrille_client_session session, const uint8_t *piece,
+                                                            size_t piece_length, uint8_t *staging, size_t staging_length)
+{
+    const uint8_t *p = READ(uint8_t, piece, piece_length);
+    uint8_t *s = WRITE(uint8_t, staging, staging_length);
+    PASS(lachsbrille_client_step,
+         __real_lachsbrille_session_transfer(session, p, piece_length, s, staging_length));
+}
+
+lachsbrille_client_step __real_lachsbrille_session_activate(lachsbrille_client_session, const uint8_t *, size_t, uint8_t *,
+                                                            size_t, lachsbrille_record *, size_t);
+lachsbrille_client_step __wrap_lachsbrille_session_activate(lachsbrille_client_session session, const uint8_t *staging,
+                                                            size_t staging_length, uint8_t *kept, size_t kept_length,
+                                                            lachsbrille_record *table, size_t table_length)
+{
+    const uint8_t *s = READ(uint8_t, staging, staging_length);
+    uint8_t *k = WRITE(uint8_t, kept, kept_length);
+    lachsbrille_record *t = WRITE(lachsbrille_record, table, table_length);
+    PASS(lachsbrille_client_step,
+         __real_lachsbrille_session_activate(session, s, staging_length, k, kept_length, t, table_length));
+}
+
+lachsbrille_message_fields __real_lachsbrille_message_read(const uint8_t *, size_t);
+lachsbrille_message_fields __wrap_lachsbrille_message_read(const uint8_t *bytes, size_t bytes_length)
+{
+    PASS(lachsbrille_message_fields,
+         __real_lachsbrille_message_read(READ(uint8_t, bytes, bytes_length), bytes_length));
+}
+
+uint32_t __real_lachsbrille_message_write_value(uint8_t *, size_t, uint8_t, uint16_t, uint16_t, int32_t);
+uint32_t __wrap_lachsbrille_message_write_value(uint8_t *to, size_t to_length, uint8_t command, uint16_t element,
+                                                uint16_t ddi, int32_t value)
+{
+    uint8_t *t = WRITE(uint8_t, to, to_length);
+    PASS(uint32_t, __real_lachsbrille_message_write_value(t, to_length, command, element, ddi, value));
+}
+
+uint32_t __real_lachsbrille_message_write_acknowledge(uint8_t *, size_t, uint16_t, uint16_t, uint8_t, uint8_t);
+uint32_t __wrap_lachsbrille_message_write_acknowledge(uint8_t *to, size_t to_length, uint16_t element, uint16_t ddi,
+                                                      uint8_t errors, uint8_t answered)
+{
+    uint8_t *t = WRITE(uint8_t, to, to_length);
+    PASS(uint32_t, __real_lachsbrille_message_write_acknowledge(t, to_length, element, ddi, errors, answered));
+}
+
+uint32_t __real_lachsbrille_judge(const uint8_t *, size_t, lachsbrille_record *, size_t, uint8_t, uint16_t, uint16_t,
+                                  int32_t, uint8_t *);
+uint32_t __wrap_lachsbrille_judge(const uint8_t *pool, size_t pool_length, lachsbrille_record *table, size_t table_length,
+                                  uint8_t command, uint16_t element, uint16_t ddi, int32_t value, uint8_t *error)
+{
+    const uint8_t *p = READ(uint8_t, pool, pool_length);
+    lachsbrille_record *t = WRITE(lachsbrille_record, table, table_length);
+    PASS(uint32_t, __real_lachsbrille_judge(p, pool_length, t, table_length, command, element, ddi, value,
+                                            WRITE(uint8_t, error, 1)));
+}
+
+uint32_t __real_lachsbrille_displayed(int32_t, int32_t, float, uint8_t, double *);
+uint32_t __wrap_lachsbrille_displayed(int32_t value, int32_t offset, float scale, uint8_t decimals, double *result)
+{
+    PASS(uint32_t, __real_lachsbrille_displayed(value, offset, scale, decimals, WRITE(double, result, 1)));
+}
+
+lachsbrille_log_record __real_lachsbrille_log_read_record(const uint8_t *, size_t, uint16_t, size_t, uint8_t *, size_t,
+                                                          int32_t *, size_t);
+lachsbrille_log_record __wrap_lachsbrille_log_read_record(const uint8_t *bytes, size_t bytes_length, uint16_t layout,
+                                                          size_t logged, uint8_t *ordinals, size_t ordinals_length,
+                                                          int32_t *values, size_t values_length)
+{
+    const uint8_t *b = READ(uint8_t, bytes, bytes_length);
+    uint8_t *o = WRITE(uint8_t, ordinals, ordinals_length);
+    int32_t *v = WRITE(int32_t, values, values_length);
+    PASS(lachsbrille_log_record, __real_lachsbrille_log_read_record(b, bytes_length, layout, logged, o, ordinals_length, v,
+                                                                    values_length));
+}
+
+lachsbrille_log_written __real_lachsbrille_log_write_record(uint8_t *, size_t, uint16_t, lachsbrille_log_fields, size_t,
+                                                            const uint8_t *, size_t, const int32_t *, size_t, size_t);
+lachsbrille_log_written __wrap_lachsbrille_log_write_record(uint8_t *to, size_t to_length, uint16_t layout,
+                                                            lachsbrille_log_fields fields, size_t logged,
+                                                            const uint8_t *ordinals, size_t ordinals_length,
+                                                            const int32_t *values, size_t values_length, size_t count)
+{
+    uint8_t *t = WRITE(uint8_t, to, to_length);
+    const uint8_t *o = READ(uint8_t, ordinals, ordinals_length);
+    const int32_t *v = READ(int32_t, values, values_length);
+    PASS(lachsbrille_log_written, __real_lachsbrille_log_write_record(t, to_length, layout, fields, logged, o,
+                                                                      ordinals_length, v, values_length, count));
+}
+
+lachsbrille_log_outcome __real_lachsbrille_log_read(const uint8_t *, size_t, uint16_t, size_t);
+lachsbrille_log_outcome __wrap_lachsbrille_log_read(const uint8_t *bytes, size_t bytes_length, uint16_t layout, size_t logged)
+{
+    const uint8_t *b = READ(uint8_t, bytes, bytes_length);
+    PASS(lachsbrille_log_outcome, __real_lachsbrille_log_read(b, bytes_length, layout, logged));
+}
