@@ -178,7 +178,7 @@ fn try_short(
     ))
 }
 
-// Lists for a pool of any length with the IDs and element numbers that implements use.
+// Lists for a pool of any length with the IDs, element numbers and lists of entries that implements use.
 fn try_middle(
     p: &[u8],
     table: &[u16],
@@ -192,7 +192,45 @@ fn try_middle(
     ensures { λ r. ⌜ Told (now (p .entry)) (shown (now (table .entry)) count) (now (faults .entry)) start (now (faults .exit)) r ⌝ }
 {
     let mut index = [0u16; 8192];
-    let mut numbers = [0u16; 4096];
+    let mut numbers = [0u16; 8192];
+    let mut ups = [0u16; 8193];
+    if !prepare(p, table, count, &mut index, &mut numbers, &mut ups, 1024) {
+        return Tried::Short;
+    }
+    let mut list = [0u16; 1024];
+    let mut seen = [0u16; 1024];
+    Tried::Counted(put_rest(
+        p,
+        table,
+        count,
+        &index,
+        &numbers,
+        &ups,
+        device,
+        1024,
+        &mut list,
+        &mut seen,
+        from,
+        faults,
+        start,
+    ))
+}
+
+// The same for lists of entries of any length.
+fn try_wide(
+    p: &[u8],
+    table: &[u16],
+    count: usize,
+    device: u16,
+    from: usize,
+    faults: &mut [u16],
+    start: usize,
+) -> Tried
+    requires { ⌜ (count * width ≤ length (now table)) × (count ≤ 8192) × (device ≡ firstOf (kindAt (shown (now table) count)) 1 count) × Led (now p) (shown (now table) count) count from × (start ≤ 2) ⌝ }
+    ensures { λ r. ⌜ Told (now (p .entry)) (shown (now (table .entry)) count) (now (faults .entry)) start (now (faults .exit)) r ⌝ }
+{
+    let mut index = [0u16; 8192];
+    let mut numbers = [0u16; 8192];
     let mut ups = [0u16; 8193];
     if !prepare(p, table, count, &mut index, &mut numbers, &mut ups, 32768) {
         return Tried::Short;
@@ -254,6 +292,26 @@ fn count_long(
     )
 }
 
+// Counts and puts the faults of the records from one on, with long lists.
+fn count_wide(
+    p: &[u8],
+    table: &[u16],
+    count: usize,
+    device: u16,
+    from: usize,
+    faults: &mut [u16],
+    start: usize,
+) -> usize
+    requires { ⌜ (count * width ≤ length (now table)) × (count ≤ 8192) × (device ≡ firstOf (kindAt (shown (now table) count)) 1 count) × Led (now p) (shown (now table) count) count from × (start ≤ 2) × Roomy (now p) (shown (now table) count) 32768 ⌝ }
+    ensures { λ r. ⌜ Completes (now (p .entry)) (shown (now (table .entry)) count) (now (faults .entry)) start (now (faults .exit)) r ⌝ }
+{
+    let wide = try_wide(p, table, count, device, from, faults, start);
+    if let Tried::Counted(n) = wide {
+        return n;
+    }
+    count_long(p, table, count, device, from, faults, start)
+}
+
 // Counts and puts the faults of the records, of which so many from the first on have none, with the shortest lists that do.
 fn count_rest(
     p: &[u8],
@@ -279,7 +337,7 @@ fn count_rest(
     if let Tried::Counted(n) = middle {
         return n;
     }
-    count_long(p, table, count, device, from, faults, start)
+    count_wide(p, table, count, device, from, faults, start)
 }
 
 // Counts and puts the faults of a pool that has been read into a table. Where the pool as a whole has none, most often no

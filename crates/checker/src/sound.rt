@@ -91,14 +91,22 @@ fn lead_wide(p: &[u8], table: &[u16], count: usize, device: u16) -> usize
     breaches::lead::lead(p, table, count, device, &links, &mut numbers, &mut seen)
 }
 
-// Whether record i is there and so long that its list has more entries than there were stamps.
-fn is_long(table: &[u16], count: usize, i: usize) -> bool
+// Whether a device element of so many bytes has more entries than there were stamps, yet no more than there are records: a longer
+// list has some DDI twice, so that no look tells it to be without a fault. Beside its entries it takes up to 141 bytes.
+fn is_long(size: u16, count: usize) -> bool
+    requires { ⌜ count ≤ 8192 ⌝ }
+{
+    (2048 < size) & (size as usize <= 2 * count + 141)
+}
+
+// Whether record i is there and has such a list.
+fn is_long_at(table: &[u16], count: usize, i: usize) -> bool
     requires { ⌜ (count * width ≤ length (now table)) × (count ≤ 8192) ⌝ }
 {
     if count <= i {
         return false;
     }
-    2048 < table[i * 4 + 1]
+    is_long(table[i * 4 + 1], count)
 }
 
 // Whether a record has an ID for which the lists were too short.
@@ -131,7 +139,7 @@ pub(crate) fn widened(
     if 0 < start {
         return from;
     }
-    if is_long(table, count, from) {
+    if is_long_at(table, count, from) {
         return lead_wide(p, table, count, device);
     }
     if 0 < from {

@@ -55,8 +55,8 @@ returns-3 c =
 enum-told-2 : tie.Need-enum-told-2
 enum-told-2 c = search needs
 
-count-long-requires : tie.Need-count-long-requires
-count-long-requires c κs = search needs
+count-wide-requires : tie.Need-count-wide-requires
+count-wide-requires c κs = search needs
 
 same-length-3 : tie.Need-same-length-3
 same-length-3 c = search needs
@@ -69,7 +69,7 @@ returns-4 c =
     let after = c .before .before .before .before .before .before .before .before .before .before .before .before .before .before .try-short .last .1 .1 .1 .1 .1 .0 in
     let later = c .before .before .before .before .before .before .before .before .try-middle .last .1 .1 .1 .1 .1 .0 in
     carried p es _ (a .start) _ (told-short p es (a .faults .now) (a .start) after (c .before .before .before .before .before .before .before .before .before .before .before .before .before .before .try-short .result) (c .before .before .before .before .before .before .before .before .before .before .before .before .before .before .try-short .ensures) (c .before .before .before .before .before .before .before .before .before .before .enum-told .given .1))
-    (carried p es _ (a .start) _ (told-short p es after (a .start) later (c .before .before .before .before .before .before .before .before .try-middle .result) (c .before .before .before .before .before .before .before .before .try-middle .ensures) (c .before .before .before .before .enum-told2 .given .1)) (c .before .before .count-long .ensures))
+    (carried p es _ (a .start) _ (told-short p es after (a .start) later (c .before .before .before .before .before .before .before .before .try-middle .result) (c .before .before .before .before .before .before .before .before .try-middle .ensures) (c .before .before .before .before .enum-told2 .given .1)) (c .before .before .count-wide .ensures))
 
 pub count-rest-spec : {M : Type 1} → statement M
 count-rest-spec =
@@ -87,6 +87,6 @@ count-rest-spec =
     same-length-2
     returns-3
     enum-told-2
-    count-long-requires
+    count-wide-requires
     same-length-3
     returns-4)

@@ -16,7 +16,7 @@ slice-aggregate-prepare-3 : tie.Need-slice-aggregate-prepare-3
 slice-aggregate-prepare-3 c = search needs
 
 prepare-requires : tie.Need-prepare-requires
-prepare-requires c κs = (c .before .before .before .before .before .before .pre .0, c .before .before .before .before .before .before .pre .1, blank 8192, blank 4096, blank 8193, long 8193 _ (omega (arith, c .before .before .before .before .before .before .pre .1)))
+prepare-requires c κs = (c .before .before .before .before .before .before .pre .0, c .before .before .before .before .before .before .pre .1, blank 8192, blank 8192, blank 8193, long 8193 _ (omega (arith, c .before .before .before .before .before .before .pre .1)))
 
 returns : tie.Need-returns
 returns c = search needs
@@ -39,7 +39,7 @@ slice-aggregate-put-rest-5 c = search needs
 put-rest-requires : tie.Need-put-rest-requires
 put-rest-requires c κs =
     let ready = c .before .before .before .before .before .before .before .before .before .before .prepare .ensures .0 (not-false (c .before .before .before .before .before .before .before .before .before .before .prepare .result) (c .before .before .before .before .before .before .if1 .left)) in
-    (ready .0, ready .1, lent 32768 32768 (omega arith) (omega arith) (omega arith), c .before .before .before .before .before .before .before .before .before .before .before .before .before .before .before .before .before .pre .2, c .before .before .before .before .before .before .before .before .before .before .before .before .before .before .before .before .before .pre .3, c .before .before .before .before .before .before .before .before .before .before .before .before .before .before .before .before .before .pre .4)
+    (ready .0, ready .1, lent 1024 1024 (omega arith) (omega arith) (omega arith), c .before .before .before .before .before .before .before .before .before .before .before .before .before .before .before .before .before .pre .2, c .before .before .before .before .before .before .before .before .before .before .before .before .before .before .before .before .before .pre .3, c .before .before .before .before .before .before .before .before .before .before .before .before .before .before .before .before .before .pre .4)
 
 same-length : tie.Need-same-length
 same-length c = search needs
