@@ -19,16 +19,16 @@ use Rattle.records.specs.declared.ProcessData.{ProcessData}
 use Rattle.records.specs.declared.Property.{Property}
 use Rattle.records.specs.declared.ValuePresentation.{ValuePresentation}
 use Rattle.text.specs.Examined.{soundText}
-use Rattle.faults.specs.Rows.{Row, upTo, inRows}
+use Rattle.faults.specs.Rows.{Row, many, upTo, inRows}
 use Rattle.faults.specs.Emission.{Puts}
 use Rattle.faults.proofs.Emission.{emits-none, emits-same}
 use Rattle.pool.specs.Reading.{Entry, width}
 use Rattle.naming.specs.Records.{startAt, idAt}
 use Rattle.naming.specs.Naming.{named, kindOf, parentOf, climb, isData, tagOf, among}
 use Rattle.naming.specs.Lists.{shown, kindIn, Indexed}
-use Rattle.rules.specs.Table.{unsound, badOwn, isParent, repeats, doubled, elementKey, entryNamed, fieldRows, referenceRows, listRows, elementRows, dataRows, propertyRows, valueRows, presentedRows, kindRows, recordRows}
+use Rattle.rules.specs.Table.{unsound, badOwn, isParent, wrongKind, repeats, doubled, elementKey, entryNamed, fieldRows, referenceRows, listRows, elementRows, dataRows, propertyRows, valueRows, presentedRows, kindRows, recordRows}
 use Rattle.rules.proofs.Truth.{untrue, to-left, to-right}
-use Rattle.breaches.specs.Lists.{namedIn, Prepared}
+use Rattle.breaches.specs.Lists.{namedIn, tagIn, Prepared}
 use Rattle.breaches.specs.Clean.{AllClear, Apart}
 use Rattle.breaches.proofs.Tabled.{starts, kinds, ids, ids-again, names, kind-named, numbers-again, ends-not}
 
@@ -164,6 +164,18 @@ doubled-not tag n m a l = rw (among-none tag (tag m) m (λ (j : ℕ) (b : j < m)
 
 list-clear : (tag : ℕ → ℕ) (n : ℕ) → Apart tag n → (again endless : Bool) → again ≡ false → endless ≡ false → AllClear (listRows again endless tag n)
 list-clear tag n a again endless e f = (λ m l. e, (λ m l. f, (λ m l. doubled-not tag n m a l, tt)))
+
+-- entries that name nothing break neither rule 7 nor rule 12
+doubled-none : (tag : ℕ → ℕ) (m : ℕ) → tag m ≡ 0 → doubled tag m ≡ false
+unfolding doubled
+doubled-none tag m e = rw e refl
+
+module _ (p table : List ℕ) (n : ℕ) (entry : ℕ → ℕ) (none : (m : ℕ) → m < n → entry m ≡ 0) {number : ℕ} {b : List ℕ} {k : ℕ} where
+  pub wrong-none : Puts number (many 7 2 n (λ (m : ℕ). wrongKind (isData (kindIn table (entry m))) (entry m)) ∷ []) b k b k
+  wrong-none = puts-clear (λ m l. rw (none m l) refl, tt)
+
+  pub again-none : Puts number (many 12 2 n (doubled (λ (m : ℕ). tagIn p table (entry m))) ∷ []) b k b k
+  again-none = puts-clear (λ m l. doubled-none (λ (j : ℕ). tagIn p table (entry j)) m (ap (tagIn p table) (none m l)), tt)
 
 pub element-clear : (p : List ℕ) (es : List Entry) (i at : ℕ) (e : DeviceElement) → at ≡ startAt es i → e ≡ elementOf p at → AllClear (fieldRows p e)
     → isParent (kindOf es (named es (e .parent))) ≡ true → repeats (elementKey p es) (suc (e .number)) i (length es) ≡ false

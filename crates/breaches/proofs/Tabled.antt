@@ -1,7 +1,7 @@
 -- What the lists that have been prepared say of the records that a table shows. Assumes nothing.
 use mathlib.Core.Path.{_≡_, refl, sym, ap, _∙_}
 use mathlib.Core.Bool.{Bool, true, false, cond, not}
-use mathlib.Core.List.{List, [], _∷_}
+use mathlib.Core.List.{List, [], _∷_, _++_}
 use mathlib.Core.Logic.{_↔_}
 use Prim.Native.Nat.{ℕ, zero, suc, _+_, _*_, _<_, _≤_}
 use native.Mathlib.Numerals.{add-one}
@@ -159,21 +159,17 @@ module _ (table : List ℕ) (count : ℕ) where
       → e ≡ elementOf p (getD table (i * width) 0) → e .number < 65536 → (parent number up : ℕ) → parent ≡ namedIn index (e .parent)
       → number ≡ getD numbers (e .number) 0 → up ≡ getD ups (i + 1) 0 → (list : List ℕ)
       → ((m : ℕ) → m < e .entries → getD list m 0 ≡ namedIn index (entryOf p (getD table (i * width) 0) m))
-      → {b₀ b₁ b₂ b₃ : List ℕ} {k₀ k₁ k₂ k₃ : ℕ} → Puts (i + 1) (fieldRows p e) b₀ k₀ b₁ k₁
-      → Puts (i + 1) (referenceRows (kindIn table) parent (λ (m : ℕ). getD list m 0) (e .entries)) b₁ k₁ b₂ k₂
-      → Puts (i + 1) (listRows (not (eqb number (i + 1))) (not (eqb up 0)) (λ (m : ℕ). tagIn p table (getD list m 0)) (e .entries)) b₂ k₂ b₃ k₃
-      → Puts (i + 1) (elementRows p (shown table count) i (elementOf p (startAt (shown table count) i))) b₀ k₀ b₃ k₃
-  element p index numbers ups w i h e is low parent number up parent-is number-is up-is list found one two three =
+      → {b₀ b₁ b₂ : List ℕ} {k₀ k₁ k₂ : ℕ} → Puts (i + 1) (fieldRows p e) b₀ k₀ b₁ k₁
+      → Puts (i + 1) (referenceRows (kindIn table) parent (λ (m : ℕ). getD list m 0) (e .entries) ++ listRows (not (eqb number (i + 1))) (not (eqb up 0)) (λ (m : ℕ). tagIn p table (getD list m 0)) (e .entries)) b₁ k₁ b₂ k₂
+      → Puts (i + 1) (elementRows p (shown table count) i (elementOf p (startAt (shown table count) i))) b₀ k₀ b₂ k₂
+  element p index numbers ups w i h e is low parent number up parent-is number-is up-is list found one two =
       let es = shown table count in
       let at = getD table (i * width) 0 in
       let again = repeats (elementKey p es) (suc (e .number)) i (length es) in
       let endless = not (eqb (climb (parentOf p es) (length es) (suc i)) 0) in
+      let refers = references-alike index (w .ids) p list at (e .parent) (e .entries) found in
       rw (start-is i h, ← is)
       (puts-then one
-      (puts-then
-      (puts-alike (referenceRows (kindOf es) (named es (e .parent)) (entryNamed p es at) (e .entries))
-      (references-alike index (w .ids) p list at (e .parent) (e .entries) found)
-      (rw parent-is at two))
-      (puts-alike (listRows again endless (λ (m : ℕ). tagOf p es (entryNamed p es at m)) (e .entries))
-      (list-alike index (w .ids) p list at (e .entries) again endless found)
-      (rw (number-is, up-is, numbers-again p numbers (w .elements) (e .number) i low, ends-not p ups (w .chains) i h) at three))))
+      (puts-alike (referenceRows (kindOf es) (named es (e .parent)) (entryNamed p es at) (e .entries) ++ listRows again endless (λ (m : ℕ). tagOf p es (entryNamed p es at m)) (e .entries))
+      (refers .0, (refers .1 .0, (refers .1 .1 .0, (refers .1 .1 .1 .0, list-alike index (w .ids) p list at (e .entries) again endless found))))
+      (rw (parent-is, number-is, up-is, numbers-again p numbers (w .elements) (e .number) i low, ends-not p ups (w .chains) i h) at two)))

@@ -2,12 +2,12 @@
 use super::record;
 ghost use mathlib.Core.Path.{_≡_};
 ghost use mathlib.Core.Bool.{true, false};
-ghost use mathlib.Core.List.{[], _∷_};
+ghost use mathlib.Core.List.{[], _∷_, _++_};
 ghost use Prim.Native.Nat.{ℕ, _+_, _≤_, _<_, _^_};
 ghost use lib.Dec.{eqb};
 ghost use lib.ListN.{length, getD};
 ghost use Rattle.records.specs.Fields.{entryOf};
-ghost use Rattle.faults.specs.Rows.{many};
+ghost use Rattle.faults.specs.Rows.{one, many};
 ghost use Rattle.faults.specs.Emission.{Puts};
 ghost use Rattle.naming.specs.Naming.{isData};
 ghost use Rattle.naming.specs.Lists.{kindIn};
@@ -26,28 +26,27 @@ fn is_data(kind: u16) -> bool
     (kind == 3) | (kind == 4)
 }
 
-// Looks up every entry of a list once: the numbers of the records that they name.
-pub(crate) fn resolve(p: &[u8], at: u16, size: usize, index: &[u16], list: &mut [u16])
-    requires { ⌜ (size ≤ length (now list)) × (size ≤ 32768) ⌝ }
-    ensures { λ _. ⌜ ((m : ℕ) → m < size → getD (now (list .exit)) m 0 ≡ namedIn (now (index .entry)) (entryOf (now (p .entry)) at m)) ⌝ }
-{
-    let mut m: usize = 0;
-    while m < size {
-        let id = records::view::entry(p, at, m as u16);
-        list[m] = naming::named_at(index, id);
-        m += 1;
-    }
-}
-
-// Rule 6 of the entries.
-fn put_missing(list: &[u16], size: usize, number: u16, faults: &mut [u16], count: usize) -> usize
+// Rule 6 of the entries. Each is looked up once: the list then has the numbers of the records that they name.
+fn put_missing(
+    p: &[u8],
+    at: u16,
+    size: usize,
+    index: &[u16],
+    list: &mut [u16],
+    number: u16,
+    faults: &mut [u16],
+    count: usize,
+) -> usize
     requires { ⌜ (size ≤ length (now list)) × (size ≤ 32768) × (count < 2 ^ 41) ⌝ }
-    ensures { λ r. ⌜ Puts number (many 6 2 size (λ (m : ℕ). eqb (getD (now (list .entry)) m 0) 0) ∷ []) (now (faults .entry)) count (now (faults .exit)) r × (r ≤ count + size) ⌝ }
+    ensures { λ r. ⌜ Puts number (many 6 2 size (λ (m : ℕ). eqb (getD (now (list .exit)) m 0) 0) ∷ []) (now (faults .entry)) count (now (faults .exit)) r × ((m : ℕ) → m < size → getD (now (list .exit)) m 0 ≡ namedIn (now (index .entry)) (entryOf (now (p .entry)) at m)) × (r ≤ count + size) ⌝ }
 {
+    let from = records::view::entries_from(p, at);
     let mut n = count;
     let mut m: usize = 0;
     while m < size {
-        n = faults::put_if(list[m] == 0, faults, n, number, 6, (2 + m) as u16);
+        let named = naming::named_at(index, wire::read_u16(p, from + 2 * m));
+        list[m] = named;
+        n = faults::put_if(named == 0, faults, n, number, 6, (2 + m) as u16);
         m += 1;
     }
     n
@@ -91,25 +90,6 @@ fn put_wrong(
         m += 1;
     }
     n
-}
-
-// Rules 6 and 7 of a device element, all of 6 before all of 7.
-pub(crate) fn put_references(
-    table: &[u16],
-    parent: u16,
-    list: &[u16],
-    size: usize,
-    number: u16,
-    faults: &mut [u16],
-    count: usize,
-) -> usize
-    requires { ⌜ (size ≤ length (now list)) × (size ≤ 32768) × (count < 2 ^ 40) ⌝ }
-    ensures { λ r. ⌜ Puts number (referenceRows (kindIn (now (table .entry))) parent (λ (m : ℕ). getD (now (list .entry)) m 0) size) (now (faults .entry)) count (now (faults .exit)) r × (r ≤ count + 2 + size + size) ⌝ }
-{
-    let n6 = faults::put_if(parent == 0, faults, count, number, 6, 1);
-    let n6s = put_missing(list, size, number, faults, n6);
-    let n7 = faults::put_if(is_wrong_parent(table, parent), faults, n6s, number, 7, 1);
-    put_wrong(table, list, size, number, faults, n7)
 }
 
 // The DDI of process data or a property, by the record's number.
@@ -198,8 +178,17 @@ fn put_doubled(
     n
 }
 
-// Rules 8, 9 and 12 of a device element.
-pub(crate) fn put_list(
+// Rules 8 and 9 of a device element.
+fn put_numbered(again: bool, endless: bool, number: u16, faults: &mut [u16], count: usize) -> usize
+    requires { ⌜ count < 2 ^ 41 ⌝ }
+    ensures { λ r. ⌜ Puts number (one 8 1 again ∷ one 9 1 endless ∷ []) (now (faults .entry)) count (now (faults .exit)) r × (r ≤ count + 2) ⌝ }
+{
+    let n8 = faults::put_if(again, faults, count, number, 8, 1);
+    faults::put_if(endless, faults, n8, number, 9, 1)
+}
+
+// Rule 7 of the entries, rules 8 and 9, and rule 12.
+fn put_named(
     p: &[u8],
     table: &[u16],
     list: &[u16],
@@ -211,10 +200,49 @@ pub(crate) fn put_list(
     faults: &mut [u16],
     count: usize,
 ) -> usize
-    requires { ⌜ (size ≤ length (now list)) × (size ≤ length (now seen)) × (size ≤ 32768) × (count < 2 ^ 40) ⌝ }
-    ensures { λ r. ⌜ Puts number (listRows again endless (λ (m : ℕ). tagIn (now (p .entry)) (now (table .entry)) (getD (now (list .entry)) m 0)) size) (now (faults .entry)) count (now (faults .exit)) r × (r ≤ count + 2 + size) ⌝ }
+    requires { ⌜ (size ≤ length (now list)) × (size ≤ length (now seen)) × (size ≤ 32768) × (count < 2 ^ 40 + 2 ^ 16) ⌝ }
+    ensures { λ r. ⌜ Puts number (many 7 2 size (λ (m : ℕ). wrongKind (isData (kindIn (now (table .entry)) (getD (now (list .entry)) m 0))) (getD (now (list .entry)) m 0)) ∷ listRows again endless (λ (m : ℕ). tagIn (now (p .entry)) (now (table .entry)) (getD (now (list .entry)) m 0)) size) (now (faults .entry)) count (now (faults .exit)) r × (r ≤ count + 2 + size + size) ⌝ }
 {
-    let n8 = faults::put_if(again, faults, count, number, 8, 1);
-    let n9 = faults::put_if(endless, faults, n8, number, 9, 1);
+    let n7 = put_wrong(table, list, size, number, faults, count);
+    let n9 = put_numbered(again, endless, number, faults, n7);
     put_doubled(p, table, list, seen, size, number, faults, n9)
+}
+
+// Rules 6 to 9 and 12 of a device element, all of 6 before all of 7. Entries of which none names a record break neither 7 nor 12.
+pub(crate) fn put_references(
+    p: &[u8],
+    table: &[u16],
+    index: &[u16],
+    at: u16,
+    parent: u16,
+    size: usize,
+    list: &mut [u16],
+    seen: &mut [u16],
+    again: bool,
+    endless: bool,
+    number: u16,
+    faults: &mut [u16],
+    count: usize,
+) -> usize
+    requires { ⌜ (size ≤ length (now list)) × (size ≤ length (now seen)) × (size ≤ 32768) × (count < 2 ^ 40) ⌝ }
+    ensures { λ r. ⌜ Puts number (referenceRows (kindIn (now (table .entry))) parent (λ (m : ℕ). getD (now (list .exit)) m 0) size ++ listRows again endless (λ (m : ℕ). tagIn (now (p .entry)) (now (table .entry)) (getD (now (list .exit)) m 0)) size) (now (faults .entry)) count (now (faults .exit)) r × ((m : ℕ) → m < size → getD (now (list .exit)) m 0 ≡ namedIn (now (index .entry)) (entryOf (now (p .entry)) at m)) × (r ≤ count + 4 + size + size + size) ⌝ }
+{
+    let n6 = faults::put_if(parent == 0, faults, count, number, 6, 1);
+    let n6s = put_missing(p, at, size, index, list, number, faults, n6);
+    let n7 = faults::put_if(is_wrong_parent(table, parent), faults, n6s, number, 7, 1);
+    if n6s == n6 + size {
+        return put_numbered(again, endless, number, faults, n7);
+    }
+    put_named(
+        p,
+        table,
+        list,
+        seen,
+        size,
+        again,
+        endless,
+        number,
+        faults,
+        n7,
+    )
 }

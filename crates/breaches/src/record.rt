@@ -108,20 +108,21 @@ fn put_element(
     let parent = naming::named_at(index, e.parent);
     let again = number_at(numbers, e.number as usize) != number;
     let endless = number_at(ups, i + 1) != 0;
-    element::resolve(p, at, size, index, list);
     let n4 = fields::put_fields(p, e, number, faults, n);
-    let n6 = element::put_references(table, parent, list, size, number, faults, n4);
-    element::put_list(
+    element::put_references(
         p,
         table,
+        index,
+        at,
+        parent,
+        size,
         list,
         seen,
-        size,
         again,
         endless,
         number,
         faults,
-        n6,
+        n4,
     )
 }
 

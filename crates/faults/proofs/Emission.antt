@@ -4,7 +4,8 @@ use mathlib.Core.Bool.{Bool, true, false, cond}
 use mathlib.Core.List.{List, [], _∷_, _++_, append-nil, append-assoc}
 use Prim.Native.Nat.{ℕ, zero, suc, _+_, _-_, _*_, _/_, _≤_, _<_}
 use native.Mathlib.Decide.{decLt}
-use native.Mathlib.Nat.{add-zero}
+use mathlib.Core.Logic.{⊎-elim}
+use native.Mathlib.Nat.{add-zero, eq-or-lt-of-le}
 use native.Mathlib.Numerals.{add-one}
 use native.Mathlib.Omega.{arith}
 use borrow.Author.Tests.{le-leb, lt-leb}
@@ -185,6 +186,29 @@ puts-length p = emits-length (p .emits)
 pub puts-few : {n u k m : ℕ} {t : ℕ → Bool} {b₀ b : List ℕ} {k₀ k₁ : ℕ} → Puts n (many u k m t ∷ []) b₀ k₀ b k₁ → k₁ ≤ k₀ + m
 puts-few {n} {u} {k} {m} {t} p =
     omega (arith, p .emits .counted, ap length (row-faults n (many u k m t)), few-up-to n (many u k m t) m)
+
+-- and where it counts that many, each item is a breach
+last-breach : (n : ℕ) (w : Row) (m : ℕ) → suc m ≤ length (upTo n w m ++ ifSo (w .breach m) (fault n (w .rule) (w .first + m))) → w .breach m ≡ true
+last-breach n w m h = go (w .breach m) h
+  where
+    go : (t : Bool) → suc m ≤ length (upTo n w m ++ ifSo t (fault n (w .rule) (w .first + m))) → t ≡ true
+    go true l = refl
+    go false l = absurd (omega (arith, l, few-up-to n w m, length-append (upTo n w m) (ifSo false (fault n (w .rule) (w .first + m)))))
+
+full-up-to : (n : ℕ) (w : Row) (m : ℕ) → m ≤ length (upTo n w m) → (j : ℕ) → j < m → w .breach j ≡ true
+unfolding upTo
+full-up-to n w zero h j l = absurd (omega (arith, l))
+full-up-to n w (suc m) h j l =
+    let f : Fault = fault n (w .rule) (w .first + m) in
+    let before : m ≤ length (upTo n w m) = omega (arith, h, length-append (upTo n w m) (ifSo (w .breach m) f), few-if-so (w .breach m) f) in
+    ⊎-elim
+    (λ (s : j ≡ m). rw s (last-breach n w m h))
+    (λ (s : j < m). full-up-to n w m before j s)
+    (eq-or-lt-of-le (omega (arith, l)))
+
+pub puts-full : {n u k m : ℕ} {t : ℕ → Bool} {b₀ b : List ℕ} {k₀ k₁ : ℕ} → Puts n (many u k m t ∷ []) b₀ k₀ b k₁ → k₁ ≡ k₀ + m → (j : ℕ) → j < m → t j ≡ true
+puts-full {n} {u} {k} {m} {t} p e =
+    full-up-to n (many u k m t) m (omega (arith, e, p .emits .counted, ap length (row-faults n (many u k m t))))
 
 -- ---- all the faults at once: the first, as many as fit
 
