@@ -11,11 +11,12 @@
 #include <stdlib.h>
 #include <sys/mman.h>
 
-enum { STACK = 4 << 20, UNUSED = 0xA5, KB = 1024 };
+enum { STACK = 4 << 20, UNUSED = 0xA5, KB = 1024, DATA = 12, HIGH_ID = 60000, NO_ID = 60001 };
 
 static lachsbrille_record table[LACHSBRILLE_RECORDS_MOST];
 static uint16_t faults[LACHSBRILLE_FAULT_WORDS];
-static uint8_t area[Q], other_area[Q];
+static uint8_t area[LACHSBRILLE_POOL_MOST], other_area[LACHSBRILLE_POOL_MOST];
+static uint8_t pool[LACHSBRILLE_POOL_MOST];
 static size_t pool_length, value, from, to;
 static uint8_t error, message[LACHSBRILLE_MESSAGE_LENGTH], record[LACHSBRILLE_LOG_RECORD_MOST];
 static const uint8_t ordinals[LACHSBRILLE_LOG_VALUES_MOST];
@@ -30,33 +31,33 @@ static void nothing(void)
 
 static void read_pool(void)
 {
-    (void)lachsbrille_read(q, pool_length, table, LACHSBRILLE_RECORDS_MOST, &value);
+    (void)lachsbrille_read(pool, pool_length, table, LACHSBRILLE_RECORDS_MOST, &value);
 }
 
 static void check_pool(void)
 {
-    (void)lachsbrille_check(q, pool_length, table, LACHSBRILLE_RECORDS_MOST, faults, LACHSBRILLE_FAULT_WORDS, &value);
+    (void)lachsbrille_check(pool, pool_length, table, LACHSBRILLE_RECORDS_MOST, faults, LACHSBRILLE_FAULT_WORDS, &value);
 }
 
 static void text(void)
 {
-    (void)lachsbrille_text(q, pool_length, table, LACHSBRILLE_RECORDS_MOST, 0, &from, &to);
+    (void)lachsbrille_text(pool, pool_length, table, LACHSBRILLE_RECORDS_MOST, 0, &from, &to);
 }
 
 static void labels(void)
 {
-    (void)lachsbrille_labels(q, pool_length, table, LACHSBRILLE_RECORDS_MOST);
+    (void)lachsbrille_labels(pool, pool_length, table, LACHSBRILLE_RECORDS_MOST);
 }
 
 static void activate(void)
 {
     lachsbrille_client_session session = {LACHSBRILLE_STAGE_OFFERED, 0, pool_length, pool_length, 0};
-    (void)lachsbrille_session_activate(session, q, Q, area, Q, table, LACHSBRILLE_RECORDS_MOST);
+    (void)lachsbrille_session_activate(session, pool, sizeof pool, area, sizeof area, table, LACHSBRILLE_RECORDS_MOST);
 }
 
 static void judge(void)
 {
-    (void)lachsbrille_judge(q, pool_length, table, LACHSBRILLE_RECORDS_MOST, 4, 1, 141, 0, &error);
+    (void)lachsbrille_judge(pool, pool_length, table, LACHSBRILLE_RECORDS_MOST, 4, 1, 141, 0, &error);
 }
 
 /* Functions without a table. */
@@ -126,6 +127,39 @@ static void within(const char *what, void (*calls)(void), size_t kilobytes)
     }
 }
 
+static void put_number(size_t at, size_t number)
+{
+    pool[at] = (uint8_t)(number & 0xFF);
+    pool[at + 1] = (uint8_t)(number >> 8);
+}
+
+/* Q, and behind it process data as Q's own, as much of it as fits. The last of it may have a high ID and a presentation that is
+ * not there. */
+static void make_long(bool faulty)
+{
+    size_t id = 4;
+
+    memcpy(pool, q, Q);
+    for (pool_length = Q; pool_length + DATA <= sizeof pool; pool_length += DATA) {
+        memcpy(pool + pool_length, q + ELEMENT_END, DATA);
+        put_number(pool_length + 3, id++);
+    }
+    if (faulty) {
+        put_number(pool_length - DATA + 3, HIGH_ID);
+        put_number(pool_length - 2, NO_ID);
+    }
+}
+
+/* The calls with a table that do not judge. */
+static void calls_within(size_t reading, size_t most)
+{
+    within("reading", read_pool, reading);
+    within("checking", check_pool, most);
+    within("text", text, most);
+    within("labels", labels, most);
+    within("activating", activate, most);
+}
+
 int main(int count, char **arguments)
 {
     /* A sound pool, one with a fault, and one that is cut. */
@@ -141,16 +175,18 @@ int main(int count, char **arguments)
     sound = strtoul(arguments[3], NULL, 10);
     any = strtoul(arguments[4], NULL, 10);
     judgement = strtoul(arguments[5], NULL, 10);
+    memcpy(pool, q, Q);
     for (at = 0; at < sizeof lengths / sizeof *lengths; at++) {
-        size_t most = lengths[at] == Q ? sound : any;
         pool_length = lengths[at];
-        within("reading", read_pool, reading);
-        within("checking", check_pool, most);
-        within("text", text, most);
-        within("labels", labels, most);
-        within("activating", activate, most);
+        calls_within(reading, pool_length == Q ? sound : any);
         within("judging", judge, judgement);
     }
+    make_long(false);
+    calls_within(reading, sound);
+    within("judging", judge, judgement);
+    make_long(true);
+    calls_within(reading, any);
+    within("judging", judge, judgement);
     within("a function without a table", others, none);
     return failures != 0;
 }
