@@ -1,14 +1,14 @@
 -- What holds of a value that can arise. Assumes nothing.
 use mathlib.Core.List.{List}
-use mathlib.Core.Path.{_≡_, refl, sym, ap, _∙_}
+use mathlib.Core.Path.{_≡_, refl, sym}
 use mathlib.Core.Bool.{Bool, true, false, not, _&&_, _||_, true≢false}
-use Prim.Native.Nat.{ℕ, _≤_, _<_}
+use Prim.Native.Nat.{ℕ, _≤_}
 use native.Mathlib.Omega.{arith}
 use borrow.Author.Tests.{ltb-false, eqb-false}
 use lib.Dec.{eqb, ltb}
 use lib.ListN.{length, take}
 use lib.Seq.{length-take-le}
-use Rattle.session.specs.Calls.{isOffered, impossible, isChecked}
+use Rattle.session.specs.Calls.{isOffered, impossible}
 use Rattle.session.specs.declared.Session.{Session}
 
 pub neither : (a b : Bool) → (a || b) ≡ false → (a ≡ false) × (b ≡ false)
@@ -65,15 +65,3 @@ sized s staging kept e o h =
     let m = some s e o in
     let k = small s e in
     (a, omega arith, omega arith, omega arith)
-
--- a pool that is checked lies within staging
-pub checked-within : (s : Session) (ls lk : ℕ) → isChecked s ls lk ≡ true → s .announced ≤ ls
-unfolding isChecked
-checked-within s ls lk e = ltb-false ls (s .announced) (last (not (impossible s)) (isOffered (s .stage)) (not (ltb (s .received) (s .announced))) (ltb ls (s .announced)) (ltb lk (s .announced)) e)
-  where
-    last : (a b c d f : Bool) → (a && (b && (c && not (d || f)))) ≡ true → d ≡ false
-    last true true true true f e = absurd (true≢false (sym e))
-    last true true true false f e = refl
-    last true true false d f e = absurd (true≢false (sym e))
-    last true false c d f e = absurd (true≢false (sym e))
-    last false b c d f e = absurd (true≢false (sym e))

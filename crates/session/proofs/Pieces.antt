@@ -1,18 +1,14 @@
 -- A piece laid into the part of staging that is lent on. Assumes nothing.
-use mathlib.Core.Path.{_≡_, refl, sym, ap, _∙_}
-use mathlib.Core.Bool.{Bool, true, false, not, _||_, true≢false}
-use mathlib.Core.List.{List, [], _∷_, _++_, append-nil, append-assoc}
-use Prim.Native.Nat.{ℕ, _+_, _-_, _≤_, _<_}
+use mathlib.Core.Path.{_≡_}
+use mathlib.Core.List.{List, [], _++_, append-nil, append-assoc}
+use Prim.Native.Nat.{ℕ, _+_, _-_, _≤_}
 use native.Mathlib.Omega.{arith}
 use native.Mathlib.Nat.{zero-add}
-use borrow.Author.Tests.{le-leb, le-ltb, lt-ltb}
-use lib.Dec.{eqb, ltb}
+use borrow.Author.Tests.{le-leb}
 use lib.ListN.{length, take, drop, length-drop, drop-of-length-le}
 use lib.Seq.{sets, sets-eq, take-all, drop-drop}
 use Rattle.wire.specs.Bytes.{laid}
 use Rattle.wire.proofs.Laid.{laid-fits}
-use Rattle.session.specs.Calls.{Told, isOffered, impossible, transferOf, stagingAfter}
-use Rattle.session.specs.declared.Session.{Session}
 
 -- the rest of staging with the piece at its start, put back behind what is before it
 pub put-back : (staging piece : List ℕ) (at : ℕ) → at + length piece ≤ length staging

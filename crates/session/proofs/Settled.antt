@@ -1,11 +1,11 @@
 -- What checking an offered pool settles. Assumes nothing.
-use mathlib.Core.Path.{_≡_, refl, sym, ap, _∙_, subst}
-use mathlib.Core.Bool.{Bool, true, false, not}
+use mathlib.Core.Path.{_≡_, refl, sym, ap, _∙_}
+use mathlib.Core.Bool.{Bool, true, false}
 use mathlib.Core.List.{List, [], _∷_}
-use Prim.Native.Nat.{ℕ, zero, suc, _+_, _≤_, _<_}
+use Prim.Native.Nat.{ℕ, zero, _+_, _≤_, _<_}
 use native.Mathlib.Omega.{arith}
 use borrow.Author.Tests.{eq-eqb, ne-eqb, eqb-true, le-leb}
-use lib.Dec.{eqb, ltb, leb}
+use lib.Dec.{eqb, ltb}
 use lib.ListN.{length, getD, replicate}
 use lib.Seq.{sets}
 use Rattle.wire.specs.Bytes.{laid}
@@ -18,7 +18,7 @@ use Rattle.rules.specs.Table.{breachesOf}
 use Rattle.checker.specs.Checking.{verdictOf, checkOf, faultsAfter}
 use Rattle.checker.specs.declared.Verdict.{Verdict}
 use Rattle.session.specs.Answers.{Reply, reply, faulty}
-use Rattle.session.specs.Calls.{Told, ended, done, firstIn, decided, settled, keptSettled}
+use Rattle.session.specs.Calls.{Told, ended, done, firstIn, settled, keptSettled}
 use Rattle.session.specs.declared.Stage.the-variants.{Idle}
 use Rattle.session.specs.declared.Session.{Session}
 

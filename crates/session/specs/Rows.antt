@@ -5,8 +5,7 @@ use mathlib.Core.Path.{_≡_}
 use mathlib.Core.Bool.{true}
 use mathlib.Core.List.{List}
 use lib.ListN.{length, take}
-use Rattle.pool.specs.Reading.{scanOf, readOf}
-use Rattle.pool.specs.Walk.{ListsIf}
+use Rattle.pool.specs.Walk.{Listed}
 use Rattle.checker.specs.Checking.{countOf}
 use Rattle.session.specs.Calls.{choose, isChecked}
 use Rattle.session.specs.declared.Session.{Session}
@@ -15,7 +14,7 @@ use Rattle.session.specs.declared.Session.{Session}
 unfoldable pub recordsFor : Session → List ℕ → ℕ → ℕ → ℕ
 recordsFor s staging lk room = choose (isChecked s (length staging) lk) (countOf (take (s .announced) staging) room) 0
 
--- numbers that list the records of the pool that is checked, before and after
+-- rows that list the records of the pool that is checked, before and after
 abbrev pub ListsFor : Session → List ℕ → ℕ → ℕ → List ℕ → List ℕ → Type 0
 ListsFor s staging lk room before after =
-    isChecked s (length staging) lk ≡ true → ListsIf (readOf (take (s .announced) staging) room .number) (scanOf (take (s .announced) staging)) before after
+    isChecked s (length staging) lk ≡ true → Listed (take (s .announced) staging) room before after

@@ -3,12 +3,12 @@
 use checker::Verdict;
 use working_table::Record;
 ghost use mathlib.Core.Path.{_≡_};
-ghost use Prim.Native.Nat.{ℕ, _+_, _≤_, _<_};
-ghost use lib.ListN.{length};
-ghost use lib.Seq.{sets};
-ghost use Rattle.checker.specs.Checking.{verdictOf};
+ghost use Prim.Native.Nat.{_≤_};
+ghost use lib.ListN.{length, take};
+ghost use Rattle.pool.specs.Walk.{Reaches, Listed};
+ghost use Rattle.checker.specs.Checking.{verdictOf, countOf};
 ghost use Rattle.session.specs.Answers.{reply, replyOf, replyIn};
-ghost use Rattle.session.specs.Calls.{isOffered, newSession, ended, impossible, stepOf, refused, offerOf, transferOf, stagingAfter, keptActivated, settled, keptSettled, activateOf, isChecked, keptAfter, activatedRecords, deactivateOf, deleteOf, lostOf};
+ghost use Rattle.session.specs.Calls.{isOffered, newSession, ended, impossible, stepOf, offerOf, transferOf, stagingAfter, keptActivated, settled, keptSettled, activateOf, keptAfter, activatedRecords, deactivateOf, deleteOf, lostOf};
 ghost use Rattle.session.specs.Rows.{recordsFor, ListsFor};
 
 pub enum Stage {
@@ -205,19 +205,32 @@ fn unread(verdict: Verdict) -> Answer
     }
 }
 
-// Checks the pool that has arrived whole, and keeps it if it is accepted.
-fn settle(s: Session, p: &[u8], kept: &mut [u8], room: usize) -> Step
-    requires { ⌜ (1 ≤ length (now p)) × (length (now p) ≤ 65535) × (length (now p) ≤ length (now kept)) ⌝ }
-    ensures { λ r. ⌜ (stepOf r ≡ settled s (now (p .entry)) room) × (now (kept .exit) ≡ keptSettled (now (p .entry)) room (now (kept .entry))) ⌝ }
+// What activating answers, and how many entries of the table are then filled from the rows.
+struct Activated {
+    step: Step,
+    records: usize,
+}
+
+fn filling(step: Step, records: usize) -> Activated
+    ensures { λ r. ⌜ (r .step ≡ step) × (r .records ≡ records) ⌝ }
+{
+    Activated { step, records }
+}
+
+// Checks the pool that has arrived whole, by rows that reach for every record, and keeps it if it is accepted.
+fn settle(s: Session, p: &[u8], kept: &mut [u8], room: usize, rows: &mut [u16]) -> Activated
+    requires { ⌜ (1 ≤ length (now p)) × (length (now p) ≤ 65535) × (length (now p) ≤ length (now kept)) × Reaches (now rows) (now p) ⌝ }
+    ensures { λ r. ⌜ (stepOf (r .step) ≡ settled s (now (p .entry)) room) × (now (kept .exit) ≡ keptSettled (now (p .entry)) room (now (kept .entry))) × (r .records ≡ countOf (now (p .entry)) room) × Listed (now (p .entry)) room (now (rows .entry)) (now (rows .exit)) ⌝ }
 {
     let mut first = [0u16; 3];
-    let verdict = checker::check_for(p, room, &mut first);
+    let verdict = checker::check_by(p, room, rows, &mut first);
+    let records = checker::records_of(verdict);
     let number = checker::number_of(verdict);
     if number == 7 {
-        return refuse(s, unread(verdict));
+        return filling(refuse(s, unread(verdict)), records);
     }
     if number != 0 {
-        return refuse(end_stage(s), unread(verdict));
+        return filling(refuse(end_stage(s), unread(verdict)), records);
     }
     if checker::value_of(verdict) != 0 {
         let answer = Answer::Faulty {
@@ -225,10 +238,10 @@ fn settle(s: Session, p: &[u8], kept: &mut [u8], room: usize) -> Step
             rule: first[1],
             item: first[2],
         };
-        return refuse(end_stage(s), answer);
+        return filling(refuse(end_stage(s), answer), records);
     }
     wire::copy(p, kept, 0);
-    Step {
+    let step = Step {
         session: Session {
             stage: Stage::Idle,
             announced: 0,
@@ -237,69 +250,49 @@ fn settle(s: Session, p: &[u8], kept: &mut [u8], room: usize) -> Step
             active: true,
         },
         answer: Answer::Done,
-    }
+    };
+    filling(step, records)
 }
 
-// Activates the pool that is offered, or else the one that is kept, for a table of so many entries.
-fn activate_in(s: Session, staging: &[u8], kept: &mut [u8], room: usize) -> Step
-    ensures { λ r. ⌜ (stepOf r ≡ activateOf s (now (staging .entry)) (length (now (kept .entry))) room) × (now (kept .exit) ≡ keptAfter s (now (staging .entry)) (now (kept .entry)) room) ⌝ }
+// Activates the pool that is offered, or else the one that is kept, for a table of so many entries. The rows then start with the
+// entries of the pool that is checked, where it is read; where none is checked, no entry is filled.
+fn activate_in(
+    s: Session,
+    staging: &[u8],
+    kept: &mut [u8],
+    room: usize,
+    rows: &mut [u16],
+) -> Activated
+    requires { ⌜ Reaches (now rows) (take (s .announced) (now staging)) ⌝ }
+    ensures { λ r. ⌜ (stepOf (r .step) ≡ activateOf s (now (staging .entry)) (length (now (kept .entry))) room) × (now (kept .exit) ≡ keptAfter s (now (staging .entry)) (now (kept .entry)) room) × (r .records ≡ recordsFor s (now (staging .entry)) (length (now (kept .entry))) room) × ListsFor s (now (staging .entry)) (length (now (kept .entry))) room (now (rows .entry)) (now (rows .exit)) ⌝ }
 {
     if is_impossible(s) {
-        return refuse(s, Answer::CannotArise);
+        return filling(refuse(s, Answer::CannotArise), 0);
     }
     let stage = s.stage;
     if !is_offered(stage) {
-        return activate_kept(s, kept.len());
+        return filling(activate_kept(s, kept.len()), 0);
     }
     let announced = s.announced;
     if s.received < announced {
-        return refuse(s, Answer::Incomplete);
+        return filling(refuse(s, Answer::Incomplete), 0);
     }
     if (staging.len() < announced) | (kept.len() < announced) {
-        return refuse(s, Answer::NoRoom);
+        return filling(refuse(s, Answer::NoRoom), 0);
     }
-    settle(s, &staging[..announced], kept, room)
+    settle(s, &staging[..announced], kept, room, rows)
 }
 
-// Whether activating comes to check a pool, over areas of so many bytes.
-fn is_checked(s: Session, staging: usize, kept: usize) -> bool
-    ensures { λ r. ⌜ r ≡ isChecked s staging kept ⌝ }
-{
-    if is_impossible(s) {
-        return false;
-    }
-    let stage = s.stage;
-    if !is_offered(stage) {
-        return false;
-    }
-    if s.received < s.announced {
-        return false;
-    }
-    !((staging < s.announced) | (kept < s.announced))
-}
-
-// Lists the records of the pool that is checked as rows of numbers, for a table of so many entries: how many of its entries
-// activating fills, none where no pool is checked.
-fn rows_for(s: Session, staging: &[u8], kept: usize, room: usize, rows: &mut [u16]) -> usize
-    ensures { λ r. ⌜ (r ≡ recordsFor s (now (staging .entry)) kept room) × ListsFor s (now (staging .entry)) kept room (now (rows .entry)) (now (rows .exit)) ⌝ }
-{
-    if !is_checked(s, staging.len(), kept) {
-        return 0;
-    }
-    let announced = s.announced;
-    pool::records_of(pool::list_for(&staging[..announced], room, rows))
-}
-
-// Activates the pool that is offered, or else the one that is kept. The table is filled where a pool is checked and read. A record
-// has at least 12 bytes: the rows reach for every pool.
+// Activates the pool that is offered, or else the one that is kept. The table is filled where a pool is checked and read, from the
+// rows that the check lists its records in. A record has at least 12 bytes: the rows reach for every pool.
 pub fn activate(s: Session, staging: &[u8], kept: &mut [u8], table: &mut [Record]) -> Step
     ensures { λ r. ⌜ (stepOf r ≡ activateOf s (now (staging .entry)) (length (now (kept .entry))) (length (now (table .entry)))) × (now (kept .exit) ≡ keptAfter s (now (staging .entry)) (now (kept .entry)) (length (now (table .entry)))) × (now (table .exit) ≡ activatedRecords s (now (staging .entry)) (length (now (kept .entry))) (now (table .entry))) ⌝ }
 {
     let mut rows = [0u16; 21844];
     let room = table.len();
-    let count = rows_for(s, staging, kept.len(), room, &mut rows);
-    working_table::gather(&rows, count, table);
-    activate_in(s, staging, kept, room)
+    let activated = activate_in(s, staging, kept, room, &mut rows);
+    working_table::gather(&rows, activated.records, table);
+    activated.step
 }
 
 pub fn deactivate(s: Session) -> Step

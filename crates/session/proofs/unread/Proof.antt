@@ -1,6 +1,6 @@
 -- `session::unread` meets its contract: each arm is a case of the definition. Assumes nothing.
 use native.Mathlib.Omega.{arith}
-use Prim.Native.Nat.{ℕ, _≤_}
+use Prim.Native.Nat.{_≤_}
 use Rattle.checker.specs.Checking.{verdictOf}
 use borrow.Author.Needs.{needs}
 use Rattle.session.proofs.unread.Statement.{statement}
