@@ -11,7 +11,7 @@ ghost use Rattle.pool.specs.Walk.{Reaches};
 ghost use Rattle.naming.specs.Naming.{firstOf};
 ghost use Rattle.checker.specs.Checking.{verdictOf};
 ghost use Rattle.device.specs.Queries.{refusalIn, textIn, Finds, Labelled};
-ghost use Rattle.device.specs.Parts.{columnIn, LabelledBy};
+ghost use Rattle.device.specs.Parts.{columnIn, CheckedRows, LabelledBy};
 
 // Where a text stands in the pool, or the number of a refusal with zeros.
 pub struct Place {
@@ -79,6 +79,37 @@ fn text_in(p: &[u8], kind: u16, at: u16) -> Span
         return records::view::value_presentation(p, at).unit;
     }
     Span { from: 0, to: 0 }
+}
+
+// Finds a text in a pool that has been checked, by the rows that the check has listed the records in: its place lies within the
+// pool, also where it is empty. No entry point, so it may ask that the verdict and the rows are the pool's.
+pub fn find_in(p: &[u8], room: usize, rows: &[u16], verdict: Verdict, id: u16) -> Place
+    requires { ⌜ CheckedRows (now p) room (now rows) verdict ⌝ }
+    ensures { λ r. ⌜ Finds (now (p .entry)) room id r ⌝ }
+{
+    let number = refusal(verdict);
+    if number != 0 {
+        return Place {
+            number,
+            from: 0,
+            to: 0,
+        };
+    }
+    let record = first_with(rows, checker::records_of(verdict), 3, id) as usize;
+    if record == 0 {
+        return Place {
+            number: 28,
+            from: 0,
+            to: 0,
+        };
+    }
+    let entry = (record - 1) * 4;
+    let text = text_in(p, rows[entry + 2], rows[entry]);
+    Place {
+        number: 0,
+        from: text.from,
+        to: text.to,
+    }
 }
 
 // Finds a text by a list of numbers that reaches for every record. Of the faults only the count matters, so the buffer for them has
@@ -156,6 +187,26 @@ fn labels_at(p: &[u8], at: u16) -> DeviceLabels
         extended,
         extended_length: text.len() as u16,
     }
+}
+
+// The labels by the rows that the check has listed the records in, as for a text: by value, with the count of the extended label's
+// bytes. An accepted pool has a device, so no test looks for its absence.
+pub fn labels_in(p: &[u8], room: usize, rows: &[u16], verdict: Verdict) -> DeviceLabels
+    requires { ⌜ CheckedRows (now p) room (now rows) verdict ⌝ }
+    ensures { λ r. ⌜ Labelled (now (p .entry)) room r ⌝ }
+{
+    let number = refusal(verdict);
+    if number != 0 {
+        return DeviceLabels {
+            number,
+            structure: [0u8; 7],
+            localization: [0u8; 7],
+            extended: [0u8; 32],
+            extended_length: 0,
+        };
+    }
+    let record = first_with(rows, checker::records_of(verdict), 2, 1) as usize;
+    labels_at(p, rows[(record - 1) * 4])
 }
 
 // The labels by a list of numbers that reaches for every record. An accepted pool has a device, so no test looks for its absence.
