@@ -1,10 +1,11 @@
 -- What looking at the table and the list by ID finds among the records that the table shows. Assumes nothing.
-use mathlib.Core.Path.{_≡_, refl, sym, ap, _∙_}
+use mathlib.Core.Path.{_≡_, refl, sym, ap, subst, _∙_}
 use mathlib.Core.List.{List}
 use Prim.Native.Nat.{ℕ, zero, suc, _-_, _*_, _≤_, _<_}
 use native.Mathlib.Omega.{arith}
 use lib.ListN.{length, getD}
 use Rattle.records.specs.Fields.{elementOf, entryOf}
+use Rattle.pool.specs.Reading.{Entry}
 use Rattle.naming.specs.Records.{idAt}
 use Rattle.naming.specs.Naming.{firstOf, numberKey, named, kindOf, tagOf}
 use Rattle.naming.specs.Lists.{shown, kindIn, Indexed}
@@ -16,7 +17,9 @@ use Rattle.breaches.specs.Lists.{tagIn}
 use Rattle.breaches.proofs.Tabled.{starts, kinds, names, within, tag-is}
 use Rattle.device.specs.Queries.{startOf}
 use Rattle.judging.specs.Judging.{elementFor, entryFor, namedBy, objectFor}
-use Rattle.judging.specs.Parts.{startIn, entryIn, namedFrom, objectIn}
+use Rattle.judging.specs.Parts.{startIn, entryIn, namedFrom, objectIn, ObjectIf}
+use Rattle.judging.specs.declared.Sought.{Sought}
+use Rattle.judging.specs.declared.Sought.the-variants.{Object}
 
 pub start-in : (table : List ℕ) (number : ℕ) → (number ≡ 0 → ⊥) → getD table ((number - 1) * 4) 0 ≡ startIn table number
 start-in table zero h = absurd (h refl)
@@ -60,10 +63,11 @@ module _ (p table : List ℕ) (count : ℕ) where
       go (suc m) = omega (arith, named-le (shown table count) (entryOf p at m), shown-long table count)
 
   pub object-shown : (index : List ℕ) → Indexed (idAt (shown table count)) count index → (at ddi size : ℕ) → size ≡ elementOf p at .entries
-      → objectIn p table index at size ddi ≡ objectFor p (shown table count) at ddi
+      → (r : ℕ) → r ≡ objectIn p table index at size ddi → r ≡ objectFor p (shown table count) at ddi
   unfolding entryFor
-  object-shown index listed at ddi size e =
-      rw e
+  object-shown index listed at ddi size e r is =
+      is
+      ∙ rw e
       (ap (namedFrom (entryIn p index at))
       (first-ext (λ (m : ℕ). tagIn p table (entryIn p index at m)) tag (suc ddi) (elementOf p at .entries) (λ (m : ℕ) (h : m < elementOf p at .entries). same m))
       ∙ go (firstOf tag (suc ddi) (elementOf p at .entries)))
@@ -82,3 +86,7 @@ module _ (p table : List ℕ) (count : ℕ) where
       go : (m : ℕ) → namedFrom (entryIn p index at) m ≡ namedBy p (shown table count) at m
       go zero = refl
       go (suc m) = looked m
+
+-- what was looked for with a list that was long enough
+pub object-sought : (p : List ℕ) (es : List Entry) (at ddi : ℕ) (t : Sought) → ObjectIf p es at ddi t → (number : ℕ) → t ≡ Object number → number ≡ objectFor p es at ddi
+object-sought p es at ddi t said number e = subst (ObjectIf p es at ddi) e said

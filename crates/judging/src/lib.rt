@@ -1,4 +1,5 @@
 // Judging a command to the device: one error byte over an accepted pool.
+use checker::Verdict;
 ghost use mathlib.Core.Path.{_≡_};
 ghost use mathlib.Core.Bool.{cond};
 ghost use Prim.Native.Nat.{suc, _*_, _≤_};
@@ -12,7 +13,8 @@ ghost use Rattle.naming.specs.Lists.{shown};
 ghost use Rattle.naming.specs.Steps.{numberIn};
 ghost use Rattle.judging.specs.Judging.{propertiesIn, triggersIn, objectFor, lacksSetting, lacksTrigger, lacksInterval, objectError, errorOf, judgeNumber, judgeError};
 ghost use Rattle.judging.specs.One.{AcceptedNamesOne};
-ghost use Rattle.judging.specs.Parts.{startIn, objectIn};
+ghost use Rattle.device.specs.Parts.{CheckedRows};
+ghost use Rattle.judging.specs.Parts.{startIn, objectIn, ObjectIf};
 
 // Number 0 and the error byte, or a refusal's number and 0.
 pub struct Judgement {
@@ -24,6 +26,12 @@ pub struct Judgement {
 struct Bits {
     properties: u8,
     triggers: u8,
+}
+
+// What is looked for with a list of some length: an object's number, 0 for none, or that the list is too short for an ID.
+enum Sought {
+    Object(u16),
+    Short,
 }
 
 // Where the record with a number from 1 starts, by the table; 0 for none.
@@ -81,8 +89,35 @@ fn find_entry(p: &[u8], table: &[u16], index: &[u16], at: u16, size: u16, ddi: u
 }
 
 // The number of the object of a DDI in the list of the device element that starts at a place, 0 for none. The records are
-// listed by ID once, so that each entry is looked up in one step.
-fn find_object(p: &[u8], table: &[u16], count: usize, at: u16, ddi: u16) -> u16
+// listed by ID once, so that each entry is looked up in one step; the list is as short as the IDs allow, since clearing a long
+// one would take most of the time. For a pool of usual length with IDs from the first on.
+fn find_short(p: &[u8], table: &[u16], count: usize, at: u16, ddi: u16) -> Sought
+    requires { ⌜ (count * width ≤ length (now table)) × (count ≤ 8192) ⌝ }
+    ensures { λ r. ⌜ ObjectIf (now (p .entry)) (shown (now (table .entry)) count) at ddi r ⌝ }
+{
+    let mut index = [0u16; 512];
+    if !naming::index_ids(table, count, &mut index) {
+        return Sought::Short;
+    }
+    let element = records::view::device_element(p, at);
+    Sought::Object(find_entry(p, table, &index, at, element.entries, ddi))
+}
+
+// For a pool of any length with IDs from the first on.
+fn find_middle(p: &[u8], table: &[u16], count: usize, at: u16, ddi: u16) -> Sought
+    requires { ⌜ (count * width ≤ length (now table)) × (count ≤ 8192) ⌝ }
+    ensures { λ r. ⌜ ObjectIf (now (p .entry)) (shown (now (table .entry)) count) at ddi r ⌝ }
+{
+    let mut index = [0u16; 8192];
+    if !naming::index_ids(table, count, &mut index) {
+        return Sought::Short;
+    }
+    let element = records::view::device_element(p, at);
+    Sought::Object(find_entry(p, table, &index, at, element.entries, ddi))
+}
+
+// For every ID.
+fn find_long(p: &[u8], table: &[u16], count: usize, at: u16, ddi: u16) -> u16
     requires { ⌜ (count * width ≤ length (now table)) × (count ≤ 8192) ⌝ }
     ensures { λ r. ⌜ r ≡ objectFor (now (p .entry)) (shown (now (table .entry)) count) at ddi ⌝ }
 {
@@ -90,6 +125,22 @@ fn find_object(p: &[u8], table: &[u16], count: usize, at: u16, ddi: u16) -> u16
     naming::index_ids(table, count, &mut index);
     let element = records::view::device_element(p, at);
     find_entry(p, table, &index, at, element.entries, ddi)
+}
+
+// The same, by the first of these lists that has a place for every ID.
+fn find_object(p: &[u8], table: &[u16], count: usize, at: u16, ddi: u16) -> u16
+    requires { ⌜ (count * width ≤ length (now table)) × (count ≤ 8192) ⌝ }
+    ensures { λ r. ⌜ r ≡ objectFor (now (p .entry)) (shown (now (table .entry)) count) at ddi ⌝ }
+{
+    let short = find_short(p, table, count, at, ddi);
+    if let Sought::Object(number) = short {
+        return number;
+    }
+    let middle = find_middle(p, table, count, at, ddi);
+    if let Sought::Object(number) = middle {
+        return number;
+    }
+    find_long(p, table, count, at, ddi)
 }
 
 // The bits of an object: a property has none.
@@ -175,6 +226,32 @@ fn error_in(
     }
     let bits = bits_of(p, naming::kind_at(table, object), start_at(table, object));
     object_error(bits.properties, bits.triggers, command, value)
+}
+
+// Judges a command to an element that there may be, over a pool that has been checked, by the rows that the check has listed the
+// records in. No entry point, so it may ask that the verdict and the rows are the pool's.
+pub fn judge_in(
+    p: &[u8],
+    room: usize,
+    rows: &[u16],
+    verdict: Verdict,
+    command: u8,
+    element: u16,
+    ddi: u16,
+    value: i32,
+) -> Judgement
+    requires { ⌜ (element ≤ 4095) × CheckedRows (now p) room (now rows) verdict ⌝ }
+    ensures { λ r. ⌜ (r .number ≡ judgeNumber (now (p .entry)) room element) × (r .error ≡ judgeError (now (p .entry)) room command element ddi value) ⌝ }
+{
+    let number = device::refusal(verdict);
+    if number != 0 {
+        return Judgement { number, error: 0 };
+    }
+    let count = checker::records_of(verdict);
+    Judgement {
+        number: 0,
+        error: error_in(p, rows, count, command, element, ddi, value),
+    }
 }
 
 // Judges a command by a list of numbers that reaches for every record. Of the faults only the count matters, so the buffer for

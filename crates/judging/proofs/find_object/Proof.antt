@@ -1,38 +1,55 @@
--- `judging::find_object` meets its contract: a list of 65536 numbers has a place for every ID. Assumes nothing.
-use mathlib.Core.Path.{ap, _∙_}
-use native.Mathlib.Omega.{arith}
-use Rattle.records.specs.declared.DeviceElement.{DeviceElement}
-use Rattle.checker.proofs.Lists.{blank, long}
-use Rattle.judging.proofs.Found.{object-shown}
+-- `judging::find_object` meets its contract: a list that was long enough gives the object. Assumes nothing.
+use Rattle.naming.specs.Lists.{shown}
+use Rattle.judging.proofs.Found.{object-sought}
 use borrow.Author.Needs.{needs}
 use Rattle.judging.proofs.find_object.Statement.{statement}
 use Rattle.judging.proofs.find_object.Tie as tie
 
-slice-aggregate-index-ids : tie.Need-slice-aggregate-index-ids
-slice-aggregate-index-ids c = search needs
+find-short-requires : tie.Need-find-short-requires
+find-short-requires c κs = search needs
 
-index-ids-requires : tie.Need-index-ids-requires
-index-ids-requires c κs = (c .before .before .before .pre .0, c .before .before .before .pre .1, blank 65536)
-
-device-element-requires : tie.Need-device-element-requires
-device-element-requires c κs = search needs
-
-slice-aggregate-find-entry : tie.Need-slice-aggregate-find-entry
-slice-aggregate-find-entry c = search needs
-
-find-entry-requires : tie.Need-find-entry-requires
-find-entry-requires c κs = search needs
+enum-known-short : tie.Need-enum-known-short
+enum-known-short c = search needs
 
 returns : tie.Need-returns
-returns c = c .find-entry .ensures ∙ object-shown (c .before .before .before .before .before .before .before .before .args .p .now) (c .before .before .before .before .before .before .before .before .args .table .now) (c .before .before .before .before .before .before .before .before .args .count) (c .before .before .before .before .index-ids .last .1 .1 .0) (c .before .before .before .before .index-ids .ensures .0 (c .before .before .before .before .index-ids .ensures .1 (long 65536 65536 (omega arith)))) (c .before .before .before .before .before .before .before .before .args .at) (c .before .before .before .before .before .before .before .before .args .ddi) (c .before .before .device-element .result .entries) (ap (λ (e : DeviceElement). e .entries) (c .before .before .device-element .ensures))
+returns c =
+    let a = c .before .before .before .before .before .before .args in
+    object-sought (a .p .now) (shown (a .table .now) (a .count)) (a .at) (a .ddi) (c .before .before .before .find-short .result) (c .before .before .before .find-short .ensures) _ (c .before .short .given .1)
+
+enum-told : tie.Need-enum-told
+enum-told c = search needs
+
+find-middle-requires : tie.Need-find-middle-requires
+find-middle-requires c κs = search needs
+
+enum-known-middle : tie.Need-enum-known-middle
+enum-known-middle c = search needs
+
+returns-2 : tie.Need-returns-2
+returns-2 c =
+    let a = c .before .before .before .before .before .before .before .before .before .args in
+    object-sought (a .p .now) (shown (a .table .now) (a .count)) (a .at) (a .ddi) (c .before .before .before .find-middle .result) (c .before .before .before .find-middle .ensures) _ (c .before .middle .given .1)
+
+enum-told-2 : tie.Need-enum-told-2
+enum-told-2 c = search needs
+
+find-long-requires : tie.Need-find-long-requires
+find-long-requires c κs = search needs
+
+returns-3 : tie.Need-returns-3
+returns-3 c = search needs
 
 pub find-object-spec : {M : Type 1} → statement M
 find-object-spec =
     tie.close
     (tie.spec
-    slice-aggregate-index-ids
-    index-ids-requires
-    device-element-requires
-    slice-aggregate-find-entry
-    find-entry-requires
-    returns)
+    find-short-requires
+    enum-known-short
+    returns
+    enum-told
+    find-middle-requires
+    enum-known-middle
+    returns-2
+    enum-told-2
+    find-long-requires
+    returns-3)
