@@ -1,5 +1,5 @@
-// What may be asked of an accepted pool: a record's text by its ID, and the labels of the device. Every call checks the
-// pool first, for a table of so many entries.
+// What may be asked of an accepted pool: a record's text by its ID, and the labels of the device. The pool has been checked, for a
+// table of so many entries.
 use checker::Verdict;
 use records::Span;
 ghost use mathlib.Core.Path.{_≡_};
@@ -7,7 +7,6 @@ ghost use Prim.Native.Nat.{_*_, _≤_, _<_};
 ghost use lib.ListN.{length};
 ghost use Rattle.records.specs.Fields.{partOf, deviceOf};
 ghost use Rattle.pool.specs.Reading.{width};
-ghost use Rattle.pool.specs.Walk.{Reaches};
 ghost use Rattle.naming.specs.Naming.{firstOf};
 ghost use Rattle.checker.specs.Checking.{verdictOf};
 ghost use Rattle.device.specs.Queries.{refusalIn, textIn, Finds, Labelled};
@@ -112,47 +111,6 @@ pub fn find_in(p: &[u8], room: usize, rows: &[u16], verdict: Verdict, id: u16) -
     }
 }
 
-// Finds a text by a list of numbers that reaches for every record. Of the faults only the count matters, so the buffer for them has
-// room for one.
-fn find_text_by(p: &[u8], room: usize, rows: &mut [u16], id: u16) -> Place
-    requires { ⌜ Reaches (now rows) (now p) ⌝ }
-    ensures { λ r. ⌜ Finds (now (p .entry)) room id r ⌝ }
-{
-    let mut faults = [0u16; 3];
-    let verdict = checker::check_by(p, room, rows, &mut faults);
-    let number = refusal(verdict);
-    if number != 0 {
-        return Place {
-            number,
-            from: 0,
-            to: 0,
-        };
-    }
-    let record = first_with(rows, checker::records_of(verdict), 3, id) as usize;
-    if record == 0 {
-        return Place {
-            number: 28,
-            from: 0,
-            to: 0,
-        };
-    }
-    let entry = (record - 1) * 4;
-    let text = text_in(p, rows[entry + 2], rows[entry]);
-    Place {
-        number: 0,
-        from: text.from,
-        to: text.to,
-    }
-}
-
-// Finds a text: its place lies within the pool, also where it is empty.
-pub fn find_text(p: &[u8], room: usize, id: u16) -> Place
-    ensures { λ r. ⌜ Finds (now (p .entry)) room id r ⌝ }
-{
-    let mut rows = [0u16; 21844];
-    find_text_by(p, room, &mut rows, id)
-}
-
 // A text that was looked for, as a slice of the pool that was lent. The number tells a refusal from a text without bytes.
 pub fn text_at<'a>(p: &'a [u8], place: Place, number: &mut u32) -> &'a [u8]
     ensures { λ r. ⌜ (now r ≡ partOf (now (p .entry)) (record { from = place .from; to = place .to })) × (now (number .exit) ≡ place .number) ⌝ }
@@ -207,33 +165,4 @@ pub fn labels_in(p: &[u8], room: usize, rows: &[u16], verdict: Verdict) -> Devic
     }
     let record = first_with(rows, checker::records_of(verdict), 2, 1) as usize;
     labels_at(p, rows[(record - 1) * 4])
-}
-
-// The labels by a list of numbers that reaches for every record. An accepted pool has a device, so no test looks for its absence.
-fn labels_by(p: &[u8], room: usize, rows: &mut [u16]) -> DeviceLabels
-    requires { ⌜ Reaches (now rows) (now p) ⌝ }
-    ensures { λ r. ⌜ Labelled (now (p .entry)) room r ⌝ }
-{
-    let mut faults = [0u16; 3];
-    let verdict = checker::check_by(p, room, rows, &mut faults);
-    let number = refusal(verdict);
-    if number != 0 {
-        return DeviceLabels {
-            number,
-            structure: [0u8; 7],
-            localization: [0u8; 7],
-            extended: [0u8; 32],
-            extended_length: 0,
-        };
-    }
-    let record = first_with(rows, checker::records_of(verdict), 2, 1) as usize;
-    labels_at(p, rows[(record - 1) * 4])
-}
-
-// The labels of the device, by value, with the count of the extended label's bytes.
-pub fn labels(p: &[u8], room: usize) -> DeviceLabels
-    ensures { λ r. ⌜ Labelled (now (p .entry)) room r ⌝ }
-{
-    let mut rows = [0u16; 21844];
-    labels_by(p, room, &mut rows)
 }

@@ -1,2 +1,3 @@
 -- What the contracts of `device_pool` cite.
 pub mod Tables
+pub mod Parts

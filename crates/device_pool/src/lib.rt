@@ -1,23 +1,59 @@
 // The interface over a lent slice of records: texts, labels and judging; reading is `working_table`'s, checking `checker`'s.
-// Each function asks the core for a table of so many entries, and has `working_table` write them.
+// Each function has the pool walked and checked once, by a list of numbers for the records. The core answers from that list, and
+// `working_table` copies it into the table.
 use device::DeviceLabels;
 use device::Place;
 use judging::Judgement;
 use working_table::Record;
 ghost use mathlib.Core.Path.{_≡_};
+ghost use Prim.Native.Nat.{_≤_};
 ghost use lib.ListN.{length};
+ghost use Rattle.pool.specs.Walk.{Reaches, Listed};
 ghost use Rattle.working_table.specs.Table.{recordsAfter};
+ghost use Rattle.checker.specs.Checking.{countOf};
 ghost use Rattle.device.specs.Queries.{textNumber, textOf, Finds, Labelled};
 ghost use Rattle.judging.specs.Judging.{judgeNumber, judgeError};
 ghost use Rattle.device_pool.specs.Tables.{judgedRecords};
+ghost use Rattle.device_pool.specs.Parts.{judgedCount};
+
+// An answer, beside how many records the rows now start with.
+struct Found {
+    records: usize,
+    place: Place,
+}
+
+struct Shown {
+    records: usize,
+    labels: DeviceLabels,
+}
+
+struct Judged {
+    records: usize,
+    judgement: Judgement,
+}
+
+// Finds a text by rows that reach for every record. Of the faults only the count matters, so the buffer for them has room for one.
+fn find_by(p: &[u8], room: usize, rows: &mut [u16], id: u16) -> Found
+    requires { ⌜ Reaches (now rows) (now p) ⌝ }
+    ensures { λ r. ⌜ Finds (now (p .entry)) room id (r .place) × (r .records ≡ countOf (now (p .entry)) room) × Listed (now (p .entry)) room (now (rows .entry)) (now (rows .exit)) ⌝ }
+{
+    let mut faults = [0u16; 3];
+    let verdict = checker::check_by(p, room, rows, &mut faults);
+    let place = device::find_in(p, room, rows, verdict, id);
+    Found {
+        records: checker::records_of(verdict),
+        place,
+    }
+}
 
 // Where the text of the first record with an ID stands in the pool, also where it is empty.
 pub fn find_text(p: &[u8], table: &mut [Record], id: u16) -> Place
     ensures { λ r. ⌜ Finds (now (p .entry)) (length (now (table .entry))) id r × (now (table .exit) ≡ recordsAfter (now (p .entry)) (now (table .entry))) ⌝ }
 {
-    let room = table.len();
-    working_table::read(p, table);
-    device::find_text(p, room, id)
+    let mut rows = [0u16; 21844];
+    let found = find_by(p, table.len(), &mut rows, id);
+    working_table::gather(&rows, found.records, table);
+    found.place
 }
 
 // The text of the first record with an ID, as a slice of the pool that was lent. The number tells a refusal from a text
@@ -29,23 +65,60 @@ pub fn text<'a>(p: &'a [u8], table: &mut [Record], id: u16, number: &mut u32) ->
     device::text_at(p, place, number)
 }
 
+// The labels by such rows.
+fn labels_by(p: &[u8], room: usize, rows: &mut [u16]) -> Shown
+    requires { ⌜ Reaches (now rows) (now p) ⌝ }
+    ensures { λ r. ⌜ Labelled (now (p .entry)) room (r .labels) × (r .records ≡ countOf (now (p .entry)) room) × Listed (now (p .entry)) room (now (rows .entry)) (now (rows .exit)) ⌝ }
+{
+    let mut faults = [0u16; 3];
+    let verdict = checker::check_by(p, room, rows, &mut faults);
+    let labels = device::labels_in(p, room, rows, verdict);
+    Shown {
+        records: checker::records_of(verdict),
+        labels,
+    }
+}
+
 // The labels of the device, by value, with the count of the extended label's bytes.
 pub fn labels(p: &[u8], table: &mut [Record]) -> DeviceLabels
     ensures { λ r. ⌜ Labelled (now (p .entry)) (length (now (table .entry))) r × (now (table .exit) ≡ recordsAfter (now (p .entry)) (now (table .entry))) ⌝ }
 {
-    let room = table.len();
-    working_table::read(p, table);
-    device::labels(p, room)
+    let mut rows = [0u16; 21844];
+    let shown = labels_by(p, table.len(), &mut rows);
+    working_table::gather(&rows, shown.records, table);
+    shown.labels
 }
 
-// The table for a command: for an element number over 4,095 the pool is not looked at, and the table stays.
-fn read_for(p: &[u8], table: &mut [Record], element: u16)
-    ensures { λ _. ⌜ now (table .exit) ≡ judgedRecords (now (p .entry)) (now (table .entry)) element ⌝ }
+// Judges a command by such rows. For an element number over 4,095 the pool is not looked at, and there is nothing for the table.
+fn judge_by(
+    p: &[u8],
+    room: usize,
+    rows: &mut [u16],
+    command: u8,
+    element: u16,
+    ddi: u16,
+    value: i32,
+) -> Judged
+    requires { ⌜ Reaches (now rows) (now p) ⌝ }
+    ensures { λ r. ⌜ (r .judgement .number ≡ judgeNumber (now (p .entry)) room element) × (r .judgement .error ≡ judgeError (now (p .entry)) room command element ddi value) × (r .records ≡ judgedCount (now (p .entry)) room element) × (element ≤ 4095 → Listed (now (p .entry)) room (now (rows .entry)) (now (rows .exit))) ⌝ }
 {
     if 4095 < element {
-        return;
+        let judgement = Judgement {
+            number: 32,
+            error: 0,
+        };
+        return Judged {
+            records: 0,
+            judgement,
+        };
     }
-    working_table::read(p, table);
+    let mut faults = [0u16; 3];
+    let verdict = checker::check_by(p, room, rows, &mut faults);
+    let judgement = judging::judge_in(p, room, rows, verdict, command, element, ddi, value);
+    Judged {
+        records: checker::records_of(verdict),
+        judgement,
+    }
 }
 
 // Judges a command to the device. For an element number over 4,095 the pool is not looked at, and the table stays.
@@ -59,7 +132,8 @@ pub fn judge(
 ) -> Judgement
     ensures { λ r. ⌜ (r .number ≡ judgeNumber (now (p .entry)) (length (now (table .entry))) element) × (r .error ≡ judgeError (now (p .entry)) (length (now (table .entry))) command element ddi value) × (now (table .exit) ≡ judgedRecords (now (p .entry)) (now (table .entry)) element) ⌝ }
 {
-    let room = table.len();
-    read_for(p, table, element);
-    judging::judge(p, room, command, element, ddi, value)
+    let mut rows = [0u16; 21844];
+    let judged = judge_by(p, table.len(), &mut rows, command, element, ddi, value);
+    working_table::gather(&rows, judged.records, table);
+    judged.judgement
 }

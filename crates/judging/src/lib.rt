@@ -7,7 +7,6 @@ ghost use lib.Dec.{eqb};
 ghost use lib.ListN.{length};
 ghost use Rattle.records.specs.Fields.{elementOf};
 ghost use Rattle.pool.specs.Reading.{width};
-ghost use Rattle.pool.specs.Walk.{Reaches};
 ghost use Rattle.naming.specs.Naming.{firstOf};
 ghost use Rattle.naming.specs.Lists.{shown};
 ghost use Rattle.naming.specs.Steps.{numberIn};
@@ -252,47 +251,6 @@ pub fn judge_in(
         number: 0,
         error: error_in(p, rows, count, command, element, ddi, value),
     }
-}
-
-// Judges a command by a list of numbers that reaches for every record. Of the faults only the count matters, so the buffer for
-// them has room for one.
-fn judge_by(
-    p: &[u8],
-    room: usize,
-    rows: &mut [u16],
-    command: u8,
-    element: u16,
-    ddi: u16,
-    value: i32,
-) -> Judgement
-    requires { ⌜ Reaches (now rows) (now p) ⌝ }
-    ensures { λ r. ⌜ (r .number ≡ judgeNumber (now (p .entry)) room element) × (r .error ≡ judgeError (now (p .entry)) room command element ddi value) ⌝ }
-{
-    if 4095 < element {
-        return Judgement {
-            number: 32,
-            error: 0,
-        };
-    }
-    let mut faults = [0u16; 3];
-    let verdict = checker::check_by(p, room, rows, &mut faults);
-    let number = device::refusal(verdict);
-    if number != 0 {
-        return Judgement { number, error: 0 };
-    }
-    let count = checker::records_of(verdict);
-    Judgement {
-        number: 0,
-        error: error_in(p, rows, count, command, element, ddi, value),
-    }
-}
-
-// Judges a command, for a table of so many entries.
-pub fn judge(p: &[u8], room: usize, command: u8, element: u16, ddi: u16, value: i32) -> Judgement
-    ensures { λ r. ⌜ (r .number ≡ judgeNumber (now (p .entry)) room element) × (r .error ≡ judgeError (now (p .entry)) room command element ddi value) ⌝ }
-{
-    let mut rows = [0u16; 21844];
-    judge_by(p, room, &mut rows, command, element, ddi, value)
 }
 
 // An accepted pool has one element and one object for a command. The function does nothing: its contract is the claim, so that
