@@ -23,8 +23,11 @@ mTy = sliceTy (tyRef erased mut (tyInt w16))
 abbrev pub sTy : Ty
 sTy = sliceTy (tyRef erased imm (tyInt w16))
 
+abbrev pub eTy : Ty
+eTy = tyRef erased mut (pointee (R .written))
+
 abbrev pub cTy : Ty
-cTy = sliceTy (tyRef erased mut (pointee (R .written)))
+cTy = sliceTy eTy
 
 pub zero-is : Is u16 0 (vint w16 0 ∷ [])
 zero-is = (refl, lit< tt)

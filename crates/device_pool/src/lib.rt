@@ -46,14 +46,47 @@ fn find_by(p: &[u8], room: usize, rows: &mut [u16], id: u16) -> Found
     }
 }
 
-// Where the text of the first record with an ID stands in the pool, also where it is empty.
-pub fn find_text(p: &[u8], table: &mut [Record], id: u16) -> Place
+// Rows for a pool of at most 1,536 bytes, for one of at most 12,288, and for every pool, as for a check.
+fn find_text_short(p: &[u8], table: &mut [Record], id: u16) -> Place
+    requires { ⌜ length (now p) ≤ 1536 ⌝ }
+    ensures { λ r. ⌜ Finds (now (p .entry)) (length (now (table .entry))) id r × (now (table .exit) ≡ recordsAfter (now (p .entry)) (now (table .entry))) ⌝ }
+{
+    let mut rows = [0u16; 512];
+    let found = find_by(p, table.len(), &mut rows, id);
+    working_table::gather(&rows, found.records, table);
+    found.place
+}
+
+fn find_text_middle(p: &[u8], table: &mut [Record], id: u16) -> Place
+    requires { ⌜ length (now p) ≤ 12288 ⌝ }
+    ensures { λ r. ⌜ Finds (now (p .entry)) (length (now (table .entry))) id r × (now (table .exit) ≡ recordsAfter (now (p .entry)) (now (table .entry))) ⌝ }
+{
+    let mut rows = [0u16; 4096];
+    let found = find_by(p, table.len(), &mut rows, id);
+    working_table::gather(&rows, found.records, table);
+    found.place
+}
+
+fn find_text_long(p: &[u8], table: &mut [Record], id: u16) -> Place
     ensures { λ r. ⌜ Finds (now (p .entry)) (length (now (table .entry))) id r × (now (table .exit) ≡ recordsAfter (now (p .entry)) (now (table .entry))) ⌝ }
 {
     let mut rows = [0u16; 21844];
     let found = find_by(p, table.len(), &mut rows, id);
     working_table::gather(&rows, found.records, table);
     found.place
+}
+
+// Where the text of the first record with an ID stands in the pool, also where it is empty.
+pub fn find_text(p: &[u8], table: &mut [Record], id: u16) -> Place
+    ensures { λ r. ⌜ Finds (now (p .entry)) (length (now (table .entry))) id r × (now (table .exit) ≡ recordsAfter (now (p .entry)) (now (table .entry))) ⌝ }
+{
+    if p.len() <= 1536 {
+        return find_text_short(p, table, id);
+    }
+    if p.len() <= 12288 {
+        return find_text_middle(p, table, id);
+    }
+    find_text_long(p, table, id)
 }
 
 // The text of the first record with an ID, as a slice of the pool that was lent. The number tells a refusal from a text
@@ -79,14 +112,47 @@ fn labels_by(p: &[u8], room: usize, rows: &mut [u16]) -> Shown
     }
 }
 
-// The labels of the device, by value, with the count of the extended label's bytes.
-pub fn labels(p: &[u8], table: &mut [Record]) -> DeviceLabels
+// By rows for a pool of at most 1,536 bytes, for one of at most 12,288, and for every pool.
+fn labels_short(p: &[u8], table: &mut [Record]) -> DeviceLabels
+    requires { ⌜ length (now p) ≤ 1536 ⌝ }
+    ensures { λ r. ⌜ Labelled (now (p .entry)) (length (now (table .entry))) r × (now (table .exit) ≡ recordsAfter (now (p .entry)) (now (table .entry))) ⌝ }
+{
+    let mut rows = [0u16; 512];
+    let shown = labels_by(p, table.len(), &mut rows);
+    working_table::gather(&rows, shown.records, table);
+    shown.labels
+}
+
+fn labels_middle(p: &[u8], table: &mut [Record]) -> DeviceLabels
+    requires { ⌜ length (now p) ≤ 12288 ⌝ }
+    ensures { λ r. ⌜ Labelled (now (p .entry)) (length (now (table .entry))) r × (now (table .exit) ≡ recordsAfter (now (p .entry)) (now (table .entry))) ⌝ }
+{
+    let mut rows = [0u16; 4096];
+    let shown = labels_by(p, table.len(), &mut rows);
+    working_table::gather(&rows, shown.records, table);
+    shown.labels
+}
+
+fn labels_long(p: &[u8], table: &mut [Record]) -> DeviceLabels
     ensures { λ r. ⌜ Labelled (now (p .entry)) (length (now (table .entry))) r × (now (table .exit) ≡ recordsAfter (now (p .entry)) (now (table .entry))) ⌝ }
 {
     let mut rows = [0u16; 21844];
     let shown = labels_by(p, table.len(), &mut rows);
     working_table::gather(&rows, shown.records, table);
     shown.labels
+}
+
+// The labels of the device, by value, with the count of the extended label's bytes.
+pub fn labels(p: &[u8], table: &mut [Record]) -> DeviceLabels
+    ensures { λ r. ⌜ Labelled (now (p .entry)) (length (now (table .entry))) r × (now (table .exit) ≡ recordsAfter (now (p .entry)) (now (table .entry))) ⌝ }
+{
+    if p.len() <= 1536 {
+        return labels_short(p, table);
+    }
+    if p.len() <= 12288 {
+        return labels_middle(p, table);
+    }
+    labels_long(p, table)
 }
 
 // Judges a command by such rows. For an element number over 4,095 the pool is not looked at, and there is nothing for the table.
@@ -121,8 +187,42 @@ fn judge_by(
     }
 }
 
-// Judges a command to the device. For an element number over 4,095 the pool is not looked at, and the table stays.
-pub fn judge(
+// By rows for a pool of at most 1,536 bytes, for one of at most 12,288, and for every pool.
+fn judge_short(
+    p: &[u8],
+    table: &mut [Record],
+    command: u8,
+    element: u16,
+    ddi: u16,
+    value: i32,
+) -> Judgement
+    requires { ⌜ length (now p) ≤ 1536 ⌝ }
+    ensures { λ r. ⌜ (r .number ≡ judgeNumber (now (p .entry)) (length (now (table .entry))) element) × (r .error ≡ judgeError (now (p .entry)) (length (now (table .entry))) command element ddi value) × (now (table .exit) ≡ judgedRecords (now (p .entry)) (now (table .entry)) element) ⌝ }
+{
+    let mut rows = [0u16; 512];
+    let judged = judge_by(p, table.len(), &mut rows, command, element, ddi, value);
+    working_table::gather(&rows, judged.records, table);
+    judged.judgement
+}
+
+fn judge_middle(
+    p: &[u8],
+    table: &mut [Record],
+    command: u8,
+    element: u16,
+    ddi: u16,
+    value: i32,
+) -> Judgement
+    requires { ⌜ length (now p) ≤ 12288 ⌝ }
+    ensures { λ r. ⌜ (r .number ≡ judgeNumber (now (p .entry)) (length (now (table .entry))) element) × (r .error ≡ judgeError (now (p .entry)) (length (now (table .entry))) command element ddi value) × (now (table .exit) ≡ judgedRecords (now (p .entry)) (now (table .entry)) element) ⌝ }
+{
+    let mut rows = [0u16; 4096];
+    let judged = judge_by(p, table.len(), &mut rows, command, element, ddi, value);
+    working_table::gather(&rows, judged.records, table);
+    judged.judgement
+}
+
+fn judge_long(
     p: &[u8],
     table: &mut [Record],
     command: u8,
@@ -136,4 +236,24 @@ pub fn judge(
     let judged = judge_by(p, table.len(), &mut rows, command, element, ddi, value);
     working_table::gather(&rows, judged.records, table);
     judged.judgement
+}
+
+// Judges a command to the device. For an element number over 4,095 the pool is not looked at, and the table stays.
+pub fn judge(
+    p: &[u8],
+    table: &mut [Record],
+    command: u8,
+    element: u16,
+    ddi: u16,
+    value: i32,
+) -> Judgement
+    ensures { λ r. ⌜ (r .number ≡ judgeNumber (now (p .entry)) (length (now (table .entry))) element) × (r .error ≡ judgeError (now (p .entry)) (length (now (table .entry))) command element ddi value) × (now (table .exit) ≡ judgedRecords (now (p .entry)) (now (table .entry)) element) ⌝ }
+{
+    if p.len() <= 1536 {
+        return judge_short(p, table, command, element, ddi, value);
+    }
+    if p.len() <= 12288 {
+        return judge_middle(p, table, command, element, ddi, value);
+    }
+    judge_long(p, table, command, element, ddi, value)
 }
