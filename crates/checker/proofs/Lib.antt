@@ -3,7 +3,6 @@ pub mod Looking
 pub mod Whole
 pub mod Lists
 pub mod Checked
-pub mod Counts
 pub mod Tries
 pub mod Tables
 pub mod Sizes

@@ -7,8 +7,6 @@ mod table;
 
 pub use table::check;
 ghost use mathlib.Core.Path.{_≡_};
-ghost use Prim.Native.Nat.{_≤_};
-ghost use lib.ListN.{length};
 ghost use Rattle.pool.specs.Walk.{Reaches, Listed};
 ghost use Rattle.checker.specs.Checking.{verdictOf, recordsIn, checkOf, countOf, faultsAfter};
 
@@ -51,44 +49,6 @@ pub fn check_by(p: &[u8], room: usize, rows: &mut [u16], faults: &mut [u16]) -> 
         Outcome::TooMany => Verdict::TooMany,
         Outcome::TableShort(needed) => Verdict::TableShort(needed),
     }
-}
-
-// Lists for a pool of at most 1,536 bytes, for one of at most 12,288, and for every pool: clearing a long one is a good part of
-// the time that a short pool takes. A record has at least 12 bytes.
-fn check_short(p: &[u8], room: usize, faults: &mut [u16]) -> Verdict
-    requires { ⌜ length (now p) ≤ 1536 ⌝ }
-    ensures { λ r. ⌜ (verdictOf r ≡ checkOf (now (p .entry)) room) × (recordsIn r ≡ countOf (now (p .entry)) room) × (now (faults .exit) ≡ faultsAfter (now (p .entry)) room (now (faults .entry))) ⌝ }
-{
-    let mut rows = [0u16; 512];
-    check_by(p, room, &mut rows, faults)
-}
-
-fn check_middle(p: &[u8], room: usize, faults: &mut [u16]) -> Verdict
-    requires { ⌜ length (now p) ≤ 12288 ⌝ }
-    ensures { λ r. ⌜ (verdictOf r ≡ checkOf (now (p .entry)) room) × (recordsIn r ≡ countOf (now (p .entry)) room) × (now (faults .exit) ≡ faultsAfter (now (p .entry)) room (now (faults .entry))) ⌝ }
-{
-    let mut rows = [0u16; 4096];
-    check_by(p, room, &mut rows, faults)
-}
-
-fn check_long(p: &[u8], room: usize, faults: &mut [u16]) -> Verdict
-    ensures { λ r. ⌜ (verdictOf r ≡ checkOf (now (p .entry)) room) × (recordsIn r ≡ countOf (now (p .entry)) room) × (now (faults .exit) ≡ faultsAfter (now (p .entry)) room (now (faults .entry))) ⌝ }
-{
-    let mut rows = [0u16; 21844];
-    check_by(p, room, &mut rows, faults)
-}
-
-// Checks a pool for a table of so many entries, which is not looked at: puts as many faults as fit into the buffer.
-pub fn check_for(p: &[u8], room: usize, faults: &mut [u16]) -> Verdict
-    ensures { λ r. ⌜ (verdictOf r ≡ checkOf (now (p .entry)) room) × (recordsIn r ≡ countOf (now (p .entry)) room) × (now (faults .exit) ≡ faultsAfter (now (p .entry)) room (now (faults .entry))) ⌝ }
-{
-    if p.len() <= 1536 {
-        return check_short(p, room, faults);
-    }
-    if p.len() <= 12288 {
-        return check_middle(p, room, faults);
-    }
-    check_long(p, room, faults)
 }
 
 // Document 01's number for what checking answers, 0 where the pool is read.

@@ -9,7 +9,8 @@ ghost use Rattle.working_table.specs.Table.{recordsAfter};
 ghost use Rattle.checker.specs.Checking.{verdictOf, recordsIn, checkOf, countOf, faultsAfter};
 ghost use Rattle.checker.specs.Tables.{ChecksInto};
 
-// Rows for a pool of at most 1,536 bytes, for one of at most 12,288, and for every pool, as for a check without a table.
+// Rows for a pool of at most 1,536 bytes, for one of at most 12,288, and for every pool: clearing long ones is a good part of the
+// time that a short pool takes. A record has at least 12 bytes.
 fn check_in_short(p: &[u8], table: &mut [Record], faults: &mut [u16]) -> Verdict
     requires { ⌜ length (now p) ≤ 1536 ⌝ }
     ensures { λ r. ⌜ ChecksInto (now (p .entry)) (now (table .entry)) (now (faults .entry)) r (now (table .exit)) (now (faults .exit)) ⌝ }
