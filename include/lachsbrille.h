@@ -12,7 +12,8 @@
  * number of calls may run at once as long as they share no memory that one of them writes.
  *
  * Stack. A function without a table takes less than 1 KB, reading takes 44 KB. Checking, a text, the labels and activating take
- * 115 KB at most for a sound pool whose IDs are below 8,192, and 525 KB at most for any; a judgement takes 612 KB at most.
+ * 72 KB where one look at each record tells that it is sound, as in most pools that implements send, and 482 KB at most; a
+ * judgement takes 613 KB at most. Only the last two are bounds for every pool.
  *
  * Refusals. A call gives 0 or a refusal's number; where several apply, the one that stands first in its list below. Unless said
  * otherwise a refusal changes no lent memory, and lent numbers and the fields of a returned struct are 0.
