@@ -126,20 +126,6 @@ at-end p at h m = go (decLt at (length p))
     go (yes l) = let x = next-of p at [] l m in let z : _≡_ {A = ℕ} 0 1 = cc (x .first) in absurd (omega arith)
     go (no l) = omega arith
 
--- what is left begins where the walk stands
-pub head-start : (p : List ℕ) (at : ℕ) (e : Entry) (es : List Entry) → Remaining p at (e ∷ es) → e .start ≡ at
-head-start p at e es m = go (decLt at (length p))
-  where
-    go : Dec (at < length p) → e .start ≡ at
-    go (yes l) =
-        let x = next-of p at (e ∷ es) l m in
-        let same : e ≡ entryAt p at (x .end) = cc (x .first) in
-        ap (λ (y : Entry). y .start) same
-    go (no l) =
-        let none : e ∷ es ≡ [] = none-left p at (e ∷ es) (omega arith) m in
-        let z : _≡_ {A = ℕ} 0 1 = cc in
-        absurd (omega arith)
-
 -- an entry and those behind it, laid over a table
 pub sets-entry : (table : List ℕ) (n : ℕ) (e : Entry) (es : List Entry)
     → sets table (n * width) (flat (e ∷ es)) ≡ sets (sets table (n * width) (numbers e)) ((n + 1) * width) (flat es)

@@ -104,14 +104,6 @@ pub fn list_for(p: &[u8], room: usize, rows: &mut [u16]) -> Outcome
     }
 }
 
-// Whether a table of so many entries gets a pool, and what is answered: reading but for the table.
-pub fn judge(p: &[u8], room: usize) -> Outcome
-    ensures { λ r. ⌜ answerOf r ≡ readOf (now (p .entry)) room ⌝ }
-{
-    let mut none = [0u16; 1];
-    list_for(p, room, &mut none)
-}
-
 // The count of records that reading finds, 0 for a refusal.
 pub fn records_of(outcome: Outcome) -> usize
     ensures { λ r. ⌜ r ≡ recordsIn outcome ⌝ }
