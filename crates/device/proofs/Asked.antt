@@ -9,7 +9,6 @@ use Rattle.records.specs.Fields.{partOf, deviceOf}
 use Rattle.records.specs.declared.Span.{Span}
 use Rattle.pool.specs.Answer.{Answer, answer}
 use Rattle.pool.specs.Reading.{Entry, width, scanOf, entriesIn, readOf}
-use Rattle.pool.specs.Walk.{Reaches, Listed}
 use Rattle.pool.proofs.Steps.{Remaining}
 use Rattle.pool.proofs.Judged.{Counted, read-counted}
 use Rattle.naming.specs.Records.{startAt, idAt, kindAt}
@@ -18,10 +17,11 @@ use Rattle.naming.specs.Lists.{shown}
 use Rattle.naming.proofs.First.{first-some, first-le, first-ext}
 use Rattle.naming.proofs.Shown.{shown-long}
 use Rattle.breaches.proofs.Tabled.{starts, kinds, ids}
-use Rattle.checker.specs.Checking.{checkOf, countOf}
+use Rattle.checker.specs.Checking.{recordsIn, checkOf}
+use Rattle.checker.specs.declared.Verdict.{Verdict}
 use Rattle.checker.proofs.Checked.{may-count, rows-show}
 use Rattle.device.specs.Queries.{refusalIn, acceptance, textIn, carrier, textNumber, textSpan, deviceIn, padded, ifAccepted, Labelled, structureLabel, localizationLabel, extendedText, extendedLabel, extendedCount}
-use Rattle.device.specs.Parts.{columnIn, LabelledBy}
+use Rattle.device.specs.Parts.{columnIn, CheckedRows, LabelledBy}
 use Rattle.device.specs.declared.DeviceLabels.{DeviceLabels}
 use Rattle.device.proofs.Accepted.{accepted-read, accepted-device}
 use Rattle.device.proofs.Whole.{Stands, left-stand, text-within, extended-limit}
@@ -58,16 +58,15 @@ text-missing p room id ok e = rw (← ok, e) (refl, refl, refl)
 
 -- ---- an accepted pool, and the rows that checking has listed
 
-module _ (p : List ℕ) (room : ℕ) (rows filled : List ℕ) (n : ℕ) (reach : Reaches rows p) (ok : 0 ≡ acceptance p room) (c : n ≡ countOf p room)
-    (l : Listed p room rows filled) where
+module _ (p : List ℕ) (room : ℕ) (filled : List ℕ) (v : Verdict) (k : CheckedRows p room filled v) (ok : 0 ≡ acceptance p room) (n : ℕ) (c : n ≡ recordsIn v) where
   read : answer 0 n ≡ readOf p room
-  read = ap (answer 0) c ∙ accepted-read p room (sym ok)
+  read = ap (answer 0) (c ∙ k .records) ∙ accepted-read p room (sym ok)
 
   pub may-look : (n * width ≤ length filled) × (n ≤ 8192)
-  may-look = let m = may-count p room rows filled n read reach l in (m .0, m .1)
+  may-look = let m = may-count p room (k .before) filled n read (k .reaches) (k .listed) in (m .0, m .1)
 
   pub shows : shown filled n ≡ entriesIn (scanOf p)
-  shows = rows-show p room rows filled n read reach l
+  shows = rows-show p room (k .before) filled n read (k .reaches) (k .listed)
 
   pub long : length (entriesIn (scanOf p)) ≡ n
   long = sym (ap length shows) ∙ shown-long filled n
@@ -87,8 +86,8 @@ module _ (p : List ℕ) (room : ℕ) (rows filled : List ℕ) (n : ℕ) (reach :
   stands : (i : ℕ) → i < n → Stands p (startAt (entriesIn (scanOf p)) i) (kindAt (entriesIn (scanOf p)) i)
   unfolding scanOf
   stands i h =
-      let k : Counted p room n = read-counted p room n read in
-      let m : Remaining p 0 (entriesIn (scanOf p)) = record { turns = length p; enough = omega arith; reads = k .scanned } in
+      let r : Counted p room n = read-counted p room n read in
+      let m : Remaining p 0 (entriesIn (scanOf p)) = record { turns = length p; enough = omega arith; reads = r .scanned } in
       left-stand p (entriesIn (scanOf p)) 0 m i (omega (arith, long))
 
   -- a record's place in the rows

@@ -27,7 +27,7 @@ first-with-requires c κs =
     let a = c .before .before .before .before .before .args in
     let k = c .before .before .before .before .before .pre in
     let refused = refused-as (a .p .now) (a .room) (verdictOf (a .verdict)) (c .before .before .refusal .result) (c .before .before .refusal .ensures) (k .verdict) in
-    let m = may-look (a .p .now) (a .room) (k .before) (a .rows .now) (c .records-of .result) (k .reaches) (sym (c .before .if1 .left) ∙ refused) (c .records-of .ensures ∙ k .records) (k .listed) in
+    let m = may-look (a .p .now) (a .room) (a .rows .now) (a .verdict) k (sym (c .before .if1 .left) ∙ refused) (c .records-of .result) (c .records-of .ensures) in
     (m .0, m .1, omega arith)
 
 cast-record : tie.Need-cast-record
@@ -38,7 +38,7 @@ returns-2 c =
     let a = c .before .before .before .before .before .before .before .args in
     let k = c .before .before .before .before .before .before .before .pre in
     let refused = refused-as (a .p .now) (a .room) (verdictOf (a .verdict)) (c .before .before .before .before .refusal .result) (c .before .before .before .before .refusal .ensures) (k .verdict) in
-    let r = text-missing (a .p .now) (a .room) (a .id) (sym (c .before .before .before .if1 .left) ∙ refused) (sym (ids-first (a .p .now) (a .room) (k .before) (a .rows .now) (c .before .before .records-of .result) (k .reaches) (sym (c .before .before .before .if1 .left) ∙ refused) (c .before .before .records-of .ensures ∙ k .records) (k .listed) (c .before .first-with .result) (a .id) (c .before .first-with .ensures)) ∙ c .if2 .taken) in
+    let r = text-missing (a .p .now) (a .room) (a .id) (sym (c .before .before .before .if1 .left) ∙ refused) (sym (ids-first (a .p .now) (a .room) (a .rows .now) (a .verdict) k (sym (c .before .before .before .if1 .left) ∙ refused) (c .before .before .records-of .result) (c .before .before .records-of .ensures) (c .before .first-with .result) (a .id) (c .before .first-with .ensures)) ∙ c .if2 .taken) in
     record { number = r .0; from = r .1; to = r .2; ordered = omega arith; within = omega arith }
 
 sub-entry : tie.Need-sub-entry
@@ -58,7 +58,7 @@ shared-slice-read-text-in c =
     let a = c .before .before .before .before .before .before .before .before .args in
     let k = c .before .before .before .before .before .before .before .before .pre in
     let refused = refused-as (a .p .now) (a .room) (verdictOf (a .verdict)) (c .before .before .before .before .before .refusal .result) (c .before .before .before .before .before .refusal .ensures) (k .verdict) in
-    omega (arith, in-rows (a .p .now) (a .room) (k .before) (a .rows .now) (c .before .before .before .records-of .result) (k .reaches) (sym (c .before .before .before .before .if1 .left) ∙ refused) (c .before .before .before .records-of .ensures ∙ k .records) (k .listed) (columnIn (a .rows .now) 3) (a .id) (c .before .before .first-with .result) (c .before .before .first-with .ensures) (c .before .if2 .left))
+    omega (arith, in-rows (a .p .now) (a .room) (a .rows .now) (a .verdict) k (sym (c .before .before .before .before .if1 .left) ∙ refused) (c .before .before .before .records-of .result) (c .before .before .before .records-of .ensures) (columnIn (a .rows .now) 3) (a .id) (c .before .before .first-with .result) (c .before .before .first-with .ensures) (c .before .if2 .left))
 
 mul-text-in-2 : tie.Need-mul-text-in-2
 mul-text-in-2 c = search needs
@@ -68,7 +68,7 @@ shared-slice-read-text-in-2 c =
     let a = c .before .before .before .before .before .before .before .before .before .args in
     let k = c .before .before .before .before .before .before .before .before .before .pre in
     let refused = refused-as (a .p .now) (a .room) (verdictOf (a .verdict)) (c .before .before .before .before .before .before .refusal .result) (c .before .before .before .before .before .before .refusal .ensures) (k .verdict) in
-    omega (arith, in-rows (a .p .now) (a .room) (k .before) (a .rows .now) (c .before .before .before .before .records-of .result) (k .reaches) (sym (c .before .before .before .before .before .if1 .left) ∙ refused) (c .before .before .before .before .records-of .ensures ∙ k .records) (k .listed) (columnIn (a .rows .now) 3) (a .id) (c .before .before .before .first-with .result) (c .before .before .before .first-with .ensures) (c .before .before .if2 .left))
+    omega (arith, in-rows (a .p .now) (a .room) (a .rows .now) (a .verdict) k (sym (c .before .before .before .before .before .if1 .left) ∙ refused) (c .before .before .before .before .records-of .result) (c .before .before .before .before .records-of .ensures) (columnIn (a .rows .now) 3) (a .id) (c .before .before .before .first-with .result) (c .before .before .before .first-with .ensures) (c .before .before .if2 .left))
 
 text-in-requires : tie.Need-text-in-requires
 text-in-requires c κs = search needs
@@ -78,7 +78,7 @@ returns-3 c =
     let a = c .before .before .before .before .before .before .before .before .before .before .args in
     let k = c .before .before .before .before .before .before .before .before .before .before .pre in
     let refused = refused-as (a .p .now) (a .room) (verdictOf (a .verdict)) (c .before .before .before .before .before .before .before .refusal .result) (c .before .before .before .before .before .before .before .refusal .ensures) (k .verdict) in
-    let r = text-found (a .p .now) (a .room) (k .before) (a .rows .now) (c .before .before .before .before .before .records-of .result) (k .reaches) (sym (c .before .before .before .before .before .before .if1 .left) ∙ refused) (c .before .before .before .before .before .records-of .ensures ∙ k .records) (k .listed) (c .before .before .before .before .first-with .result) (a .id) (c .text-in .result) (ids-first (a .p .now) (a .room) (k .before) (a .rows .now) (c .before .before .before .before .before .records-of .result) (k .reaches) (sym (c .before .before .before .before .before .before .if1 .left) ∙ refused) (c .before .before .before .before .before .records-of .ensures ∙ k .records) (k .listed) (c .before .before .before .before .first-with .result) (a .id) (c .before .before .before .before .first-with .ensures)) (c .before .before .before .if2 .left) (c .text-in .ensures) in
+    let r = text-found (a .p .now) (a .room) (a .rows .now) (a .verdict) k (sym (c .before .before .before .before .before .before .if1 .left) ∙ refused) (c .before .before .before .before .before .records-of .result) (c .before .before .before .before .before .records-of .ensures) (c .before .before .before .before .first-with .result) (a .id) (c .text-in .result) (ids-first (a .p .now) (a .room) (a .rows .now) (a .verdict) k (sym (c .before .before .before .before .before .before .if1 .left) ∙ refused) (c .before .before .before .before .before .records-of .result) (c .before .before .before .before .before .records-of .ensures) (c .before .before .before .before .first-with .result) (a .id) (c .before .before .before .before .first-with .ensures)) (c .before .before .before .if2 .left) (c .text-in .ensures) in
     record { number = r .0; from = r .1; to = r .2; ordered = r .3 .0; within = r .3 .1 }
 
 pub find-in-spec : {M : Type 1} → statement M

@@ -27,7 +27,7 @@ first-with-requires c κs =
     let a = c .before .before .before .before .before .args in
     let k = c .before .before .before .before .before .pre in
     let refused = refused-as (a .p .now) (a .room) (verdictOf (a .verdict)) (c .before .before .refusal .result) (c .before .before .refusal .ensures) (k .verdict) in
-    let m = may-look (a .p .now) (a .room) (k .before) (a .rows .now) (c .records-of .result) (k .reaches) (sym (c .before .if1 .left) ∙ refused) (c .records-of .ensures ∙ k .records) (k .listed) in
+    let m = may-look (a .p .now) (a .room) (a .rows .now) (a .verdict) k (sym (c .before .if1 .left) ∙ refused) (c .records-of .result) (c .records-of .ensures) in
     (m .0, m .1, omega arith)
 
 cast-record : tie.Need-cast-record
@@ -38,7 +38,7 @@ sub-labels-at c =
     let a = c .before .before .before .before .before .before .args in
     let k = c .before .before .before .before .before .before .pre in
     let refused = refused-as (a .p .now) (a .room) (verdictOf (a .verdict)) (c .before .before .before .refusal .result) (c .before .before .before .refusal .ensures) (k .verdict) in
-    let z : (c .first-with .result ≡ 0 → ⊥) = device-there (a .p .now) (a .room) (k .before) (a .rows .now) (c .before .records-of .result) (k .reaches) (sym (c .before .before .if1 .left) ∙ refused) (c .before .records-of .ensures ∙ k .records) (k .listed) (c .first-with .result) (c .first-with .ensures) in omega arith
+    let z : (c .first-with .result ≡ 0 → ⊥) = device-there (a .p .now) (a .room) (a .rows .now) (a .verdict) k (sym (c .before .before .if1 .left) ∙ refused) (c .before .records-of .result) (c .before .records-of .ensures) (c .first-with .result) (c .first-with .ensures) in omega arith
 
 mul-labels-at : tie.Need-mul-labels-at
 mul-labels-at c = search needs
@@ -51,21 +51,21 @@ shared-slice-read-labels-at c =
     let a = c .before .before .before .before .before .before .before .args in
     let k = c .before .before .before .before .before .before .before .pre in
     let refused = refused-as (a .p .now) (a .room) (verdictOf (a .verdict)) (c .before .before .before .before .refusal .result) (c .before .before .before .before .refusal .ensures) (k .verdict) in
-    omega (arith, in-rows (a .p .now) (a .room) (k .before) (a .rows .now) (c .before .before .records-of .result) (k .reaches) (sym (c .before .before .before .if1 .left) ∙ refused) (c .before .before .records-of .ensures ∙ k .records) (k .listed) (columnIn (a .rows .now) 2) 1 (c .before .first-with .result) (c .before .first-with .ensures) (device-there (a .p .now) (a .room) (k .before) (a .rows .now) (c .before .before .records-of .result) (k .reaches) (sym (c .before .before .before .if1 .left) ∙ refused) (c .before .before .records-of .ensures ∙ k .records) (k .listed) (c .before .first-with .result) (c .before .first-with .ensures)))
+    omega (arith, in-rows (a .p .now) (a .room) (a .rows .now) (a .verdict) k (sym (c .before .before .before .if1 .left) ∙ refused) (c .before .before .records-of .result) (c .before .before .records-of .ensures) (columnIn (a .rows .now) 2) 1 (c .before .first-with .result) (c .before .first-with .ensures) (device-there (a .p .now) (a .room) (a .rows .now) (a .verdict) k (sym (c .before .before .before .if1 .left) ∙ refused) (c .before .before .records-of .result) (c .before .before .records-of .ensures) (c .before .first-with .result) (c .before .first-with .ensures)))
 
 labels-at-requires : tie.Need-labels-at-requires
 labels-at-requires c κs =
     let a = c .before .before .before .before .before .before .before .args in
     let k = c .before .before .before .before .before .before .before .pre in
     let refused = refused-as (a .p .now) (a .room) (verdictOf (a .verdict)) (c .before .before .before .before .refusal .result) (c .before .before .before .before .refusal .ensures) (k .verdict) in
-    device-short (a .p .now) (a .room) (k .before) (a .rows .now) (c .before .before .records-of .result) (k .reaches) (sym (c .before .before .before .if1 .left) ∙ refused) (c .before .before .records-of .ensures ∙ k .records) (k .listed) (c .before .first-with .result) (c .before .first-with .ensures)
+    device-short (a .p .now) (a .room) (a .rows .now) (a .verdict) k (sym (c .before .before .before .if1 .left) ∙ refused) (c .before .before .records-of .result) (c .before .before .records-of .ensures) (c .before .first-with .result) (c .before .first-with .ensures)
 
 returns-2 : tie.Need-returns-2
 returns-2 c =
     let a = c .before .before .before .before .before .before .before .before .args in
     let k = c .before .before .before .before .before .before .before .before .pre in
     let refused = refused-as (a .p .now) (a .room) (verdictOf (a .verdict)) (c .before .before .before .before .before .refusal .result) (c .before .before .before .before .before .refusal .ensures) (k .verdict) in
-    labels-found (a .p .now) (a .room) (k .before) (a .rows .now) (c .before .before .before .records-of .result) (k .reaches) (sym (c .before .before .before .before .if1 .left) ∙ refused) (c .before .before .before .records-of .ensures ∙ k .records) (k .listed) (c .before .before .first-with .result) (c .before .before .first-with .ensures) (c .labels-at .result) (c .labels-at .ensures)
+    labels-found (a .p .now) (a .room) (a .rows .now) (a .verdict) k (sym (c .before .before .before .before .if1 .left) ∙ refused) (c .before .before .before .records-of .result) (c .before .before .before .records-of .ensures) (c .before .before .first-with .result) (c .before .before .first-with .ensures) (c .labels-at .result) (c .labels-at .ensures)
 
 pub labels-in-spec : {M : Type 1} → statement M
 labels-in-spec =

@@ -27,14 +27,14 @@ error-in-requires c κs =
     let a = c .before .before .before .before .before .args in
     let k = c .before .before .before .before .before .pre .1 in
     let refused = refused-as (a .p .now) (a .room) (verdictOf (a .verdict)) (c .before .before .refusal .result) (c .before .before .refusal .ensures) (k .verdict) in
-    may-look (a .p .now) (a .room) (k .before) (a .rows .now) (c .records-of .result) (k .reaches) (sym (c .before .if1 .left) ∙ refused) (c .records-of .ensures ∙ k .records) (k .listed)
+    may-look (a .p .now) (a .room) (a .rows .now) (a .verdict) k (sym (c .before .if1 .left) ∙ refused) (c .records-of .result) (c .records-of .ensures)
 
 returns-2 : tie.Need-returns-2
 returns-2 c =
     let a = c .before .before .before .before .before .before .args in
     let k = c .before .before .before .before .before .before .pre .1 in
     let refused = refused-as (a .p .now) (a .room) (verdictOf (a .verdict)) (c .before .before .before .refusal .result) (c .before .before .before .refusal .ensures) (k .verdict) in
-    judged (a .p .now) (a .room) (a .command) (a .element) (a .ddi) (a .value) (c .before .before .before .before .before .before .pre .0) (c .before .before .before .refusal .result) refused (a .rows .now) (c .before .before .if1 .left) (c .before .records-of .result) (c .error-in .result) (rw (toZ-ofZ w32 (a .value) (c .before .before .before .before .before .before .fits .value)) at (c .error-in .ensures)) (shows (a .p .now) (a .room) (k .before) (a .rows .now) (c .before .records-of .result) (k .reaches) (sym (c .before .before .if1 .left) ∙ refused) (c .before .records-of .ensures ∙ k .records) (k .listed))
+    judged (a .p .now) (a .room) (a .command) (a .element) (a .ddi) (a .value) (c .before .before .before .before .before .before .pre .0) (c .before .before .before .refusal .result) refused (a .rows .now) (c .before .before .if1 .left) (c .before .records-of .result) (c .error-in .result) (rw (toZ-ofZ w32 (a .value) (c .before .before .before .before .before .before .fits .value)) at (c .error-in .ensures)) (shows (a .p .now) (a .room) (a .rows .now) (a .verdict) k (sym (c .before .before .if1 .left) ∙ refused) (c .before .records-of .result) (c .before .records-of .ensures))
 
 pub judge-in-spec : {M : Type 1} → statement M
 judge-in-spec =
