@@ -4,4 +4,3 @@ pub mod Walking
 pub mod Tabled
 pub mod ByKind
 pub mod Clearing
-pub mod Leading

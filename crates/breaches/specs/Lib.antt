@@ -1,4 +1,3 @@
 -- What the contracts of `breaches` cite: what its functions read off the lists that they are lent, and rows without a breach.
 pub mod Lists
 pub mod Clean
-pub mod Leading

@@ -73,7 +73,7 @@ fn put_labels(p: &[u8], at: usize, number: u16, faults: &mut [u16], count: usize
 }
 
 // Rules 3 to 5 of a device.
-pub(crate) fn put_device(
+pub fn put_device(
     p: &[u8],
     d: Device,
     again: bool,

@@ -1,6 +1,5 @@
 // The breaches of one record, put into a fault buffer in the order of rules and items.
 mod clean;
 pub mod element;
-mod fields;
-pub mod lead;
+pub mod fields;
 pub mod record;

@@ -18,7 +18,7 @@ ghost use mathlib.Core.List.{_++_};
 ghost use Rattle.breaches.specs.Lists.{Prepared, Lent};
 
 // A number of a list, 0 behind its end.
-pub(crate) fn number_at(list: &[u16], i: usize) -> u16
+pub fn number_at(list: &[u16], i: usize) -> u16
     ensures { λ r. ⌜ r ≡ getD (now (list .entry)) i 0 ⌝ }
 {
     if i < list.len() {

@@ -4,7 +4,7 @@ use mathlib.Core.List.{List}
 use Prim.Native.Nat.{ℕ}
 use native.Mathlib.Omega.{arith}
 use Rattle.pool.specs.Reading.{Entry}
-use Rattle.breaches.specs.Leading.{Led}
+use Rattle.leading.specs.Leading.{Led}
 use Rattle.checker.specs.Trying.{Completes, Told, LedIf}
 use Rattle.checker.specs.declared.Tried.{Tried}
 use Rattle.checker.specs.declared.Tried.the-variants.{Counted, Short}

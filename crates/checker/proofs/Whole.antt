@@ -12,7 +12,7 @@ use Rattle.naming.specs.Lists.{shown}
 use Rattle.naming.proofs.Shown.{shown-long}
 use Rattle.rules.specs.Table.{poolRows, recordRows, rowsOf, breachesIn}
 use Rattle.breaches.specs.Lists.{Lent}
-use Rattle.breaches.specs.Leading.{Faultless, Led}
+use Rattle.leading.specs.Leading.{Faultless, Led}
 use Rattle.checker.specs.Trying.{Completes}
 
 -- a loop over the records: what it adds to what was put before it

@@ -5,7 +5,7 @@ use Prim.Native.Nat.{ℕ}
 use Rattle.pool.specs.Reading.{Entry}
 use Rattle.faults.specs.Emission.{Emits, Puts}
 use Rattle.rules.specs.Table.{poolRows, breachesIn}
-use Rattle.breaches.specs.Leading.{Led}
+use Rattle.leading.specs.Leading.{Led}
 use Rattle.checker.specs.declared.Tried.{Tried}
 use Rattle.checker.specs.declared.Tried.the-variants.{Counted, Short}
 

@@ -14,7 +14,7 @@ ghost use Rattle.naming.specs.Naming.{firstOf, typeKey};
 ghost use Rattle.naming.specs.Lists.{shown, Blank, Roomy};
 ghost use Rattle.rules.specs.Table.{poolRows, breachesIn};
 ghost use Rattle.breaches.specs.Lists.{Prepared, Lent};
-ghost use Rattle.breaches.specs.Leading.{Led};
+ghost use Rattle.leading.specs.Leading.{Led};
 ghost use Rattle.checker.specs.Trying.{Completes, Told};
 
 // The number of the first device, 0 for none.

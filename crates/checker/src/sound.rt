@@ -8,7 +8,7 @@ ghost use Rattle.pool.specs.Reading.{width};
 ghost use Rattle.naming.specs.Records.{kindAt};
 ghost use Rattle.naming.specs.Naming.{firstOf};
 ghost use Rattle.naming.specs.Lists.{shown};
-ghost use Rattle.breaches.specs.Leading.{Led};
+ghost use Rattle.leading.specs.Leading.{Led};
 ghost use Rattle.checker.specs.Trying.{LedIf};
 
 // For a short pool with small IDs.
@@ -22,7 +22,7 @@ fn lead_short(p: &[u8], table: &[u16], count: usize, device: u16) -> Tried
     }
     let mut numbers = [0u16; 128];
     let mut seen = [0u16; 1024];
-    Tried::Counted(breaches::lead::lead(p, table, count, device, &links, &mut numbers, &mut seen))
+    Tried::Counted(leading::lead(p, table, count, device, &links, &mut numbers, &mut seen))
 }
 
 // For the length of most pools.
@@ -36,7 +36,7 @@ fn lead_middle(p: &[u8], table: &[u16], count: usize, device: u16) -> Tried
     }
     let mut numbers = [0u16; 1024];
     let mut seen = [0u16; 1024];
-    Tried::Counted(breaches::lead::lead(p, table, count, device, &links, &mut numbers, &mut seen))
+    Tried::Counted(leading::lead(p, table, count, device, &links, &mut numbers, &mut seen))
 }
 
 // For a pool of any length with the IDs that implements use.
@@ -50,7 +50,7 @@ fn lead_long(p: &[u8], table: &[u16], count: usize, device: u16) -> Tried
     }
     let mut numbers = [0u16; 4096];
     let mut seen = [0u16; 1024];
-    Tried::Counted(breaches::lead::lead(p, table, count, device, &links, &mut numbers, &mut seen))
+    Tried::Counted(leading::lead(p, table, count, device, &links, &mut numbers, &mut seen))
 }
 
 // How many records from the first on have no fault, as far as such lists tell.
@@ -88,7 +88,7 @@ fn lead_wide(p: &[u8], table: &[u16], count: usize, device: u16) -> usize
     }
     let mut numbers = [0u16; 4096];
     let mut seen = [0u16; 65536];
-    breaches::lead::lead(p, table, count, device, &links, &mut numbers, &mut seen)
+    leading::lead(p, table, count, device, &links, &mut numbers, &mut seen)
 }
 
 // Whether a device element of so many bytes has more entries than there were stamps, yet no more than there are records: a longer

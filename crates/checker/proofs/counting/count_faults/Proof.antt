@@ -1,7 +1,7 @@
 -- `checker::counting::count_faults` meets its contract. Assumes nothing.
 use mathlib.Core.Path.{_≡_}
 use Rattle.naming.specs.Lists.{shown}
-use Rattle.breaches.specs.Leading.{Led}
+use Rattle.leading.specs.Leading.{Led}
 use Rattle.checker.proofs.Whole.{led-all}
 use Rattle.checker.proofs.Tries.{led-none}
 use borrow.Author.Needs.{needs}

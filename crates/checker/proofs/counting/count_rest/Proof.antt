@@ -1,7 +1,7 @@
 -- `checker::counting::count_rest` meets its contract. Assumes nothing.
 use Rattle.naming.specs.Lists.{shown}
 use mathlib.Core.Path.{_≡_}
-use Rattle.breaches.specs.Leading.{Led}
+use Rattle.leading.specs.Leading.{Led}
 use Rattle.checker.proofs.Whole.{led-all}
 use Rattle.checker.proofs.Tries.{told-counted, told-short, carried}
 use borrow.Author.Needs.{needs}

@@ -1,0 +1,2 @@
+-- What the contracts of `leading` cite.
+pub mod Leading
