@@ -14,16 +14,16 @@ DOCS = Path(__file__).resolve().parent
 COLUMN = {"log": 185, "exchange": 325, "beside": 460, "spine": 605, "table": 750, "session": 885, "claim": 1045}
 TOP, PITCH = 100, 64
 WIDTH, HEIGHT = 124, 42
-PICTURE = 1130, 849
+PICTURE = 1130, 913
 
 # Each layer: its name in lines, its first row and its last.
 LAYERS = [
     (["programs,", "C boundary"], 0, 0),
     (["interface"], 1, 1),
     (["accepted pools,", "sessions, logs,", "messages"], 2, 3),
-    (["checking"], 4, 7),
-    (["reading"], 8, 9),
-    (["records, bytes"], 10, 11),
+    (["checking"], 4, 8),
+    (["reading"], 9, 10),
+    (["records, bytes"], 11, 12),
 ]
 
 # Each crate: its column, its row and what it holds, in a few words.
@@ -41,17 +41,18 @@ BOXES = {
     "book": ("claim", 3, "all lists of calls"),
     "checker": ("spine", 4, "checking a pool"),
     "claims": ("claim", 4, "reading, checking"),
-    "leading": ("spine", 5, "records without a fault"),
-    "breaches": ("spine", 6, "faults of a record"),
-    "rules": ("spine", 7, "the rule table"),
-    "faults": ("beside", 7, "the fault buffer"),
-    "naming": ("spine", 8, "what an ID names"),
-    "text": ("beside", 8, "one text examined"),
-    "working_table": ("table", 8, "the lent table"),
-    "pool": ("spine", 9, "reading a pool"),
-    "records": ("spine", 10, "the five records"),
-    "division": ("claim", 10, "independent account"),
-    "wire": ("spine", 11, "numbers in bytes"),
+    "counting": ("spine", 5, "faults of a pool"),
+    "leading": ("spine", 6, "sound records"),
+    "breaches": ("spine", 7, "faults of a record"),
+    "rules": ("spine", 8, "the rule table"),
+    "faults": ("beside", 8, "the fault buffer"),
+    "naming": ("spine", 9, "what an ID names"),
+    "text": ("beside", 9, "one text examined"),
+    "working_table": ("table", 9, "the lent table"),
+    "pool": ("spine", 10, "reading a pool"),
+    "records": ("spine", 11, "the five records"),
+    "division": ("claim", 11, "independent account"),
+    "wire": ("spine", 12, "numbers in bytes"),
 }
 PROGRAMS = {"terminal", "lister"}
 CLAIMS = {"cases", "book", "claims", "division"}
@@ -64,7 +65,7 @@ BENDS = {
     ("judging", "messages"): ("left", 0, [COLUMN["beside"]], "right", 0),
     ("session", "checker"): ("bottom", 0, [], "right", -5),
     ("claims", "checker"): ("left", 6, [], "right", 6),
-    ("rules", "text"): ("bottom", -30, [7.5], "top", 0),
+    ("rules", "text"): ("bottom", -30, [8.5], "top", 0),
     ("working_table", "pool"): ("bottom", 0, [], "right", 0),
     ("text", "records"): ("bottom", 0, [], "left", 0),
     ("messages", "wire"): ("bottom", 0, [], "left", -9),

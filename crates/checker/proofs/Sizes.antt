@@ -76,7 +76,7 @@ use Rattle.checker.proofs.records_of as count
 use Rattle.checker.proofs.records_of.Symbol as count-def
 use Rattle.checker.proofs.records_of.Symbol.{name as #count}
 use Rattle.checker.proofs.records_of.Met as count-thm
-use Rattle.checker.proofs.Lists.{reaches}
+use Rattle.counting.proofs.Lists.{reaches}
 use Rattle.checker.proofs.Tables.{check-gathers, stayed, asking, Checking, vals, checking-exits}
 use Rattle.checker.proofs.table.check as check
 

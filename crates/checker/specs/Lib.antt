@@ -1,4 +1,3 @@
 -- What the contracts of `checker` cite, in the order to read it.
 pub mod Checking
-pub mod Trying
 pub mod Tables

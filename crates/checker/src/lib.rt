@@ -1,8 +1,6 @@
 // Checking a pool against the rule table: the full count of faults, and the first ones in a lent buffer.
 use pool::Outcome;
 
-mod counting;
-mod sound;
 mod table;
 
 pub use table::check;
@@ -21,12 +19,6 @@ pub enum Verdict {
     LengthOver(usize),
     TooMany,
     TableShort(usize),
-}
-
-// A try with lists of some length: what was counted, or that the lists are too short for this pool.
-enum Tried {
-    Counted(usize),
-    Short,
 }
 
 // Checks a pool for a table of so many entries, by a list of numbers that reaches for every record: puts as many faults as fit into

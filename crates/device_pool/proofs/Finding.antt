@@ -67,7 +67,7 @@ use Rattle.working_table.proofs.gather.Symbol as gather-def
 use Rattle.working_table.proofs.gather.Symbol.{name as #gather}
 use Rattle.working_table.proofs.gather.Met as gather-thm
 use Rattle.working_table.proofs.Reading.{Asking}
-use Rattle.checker.proofs.Lists.{reaches}
+use Rattle.counting.proofs.Lists.{reaches}
 use Rattle.checker.proofs.Tables.{check-gathers}
 use Rattle.device.specs.declared.Place.{Place}
 use Rattle.device.proofs.Place as D

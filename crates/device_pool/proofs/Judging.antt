@@ -69,7 +69,7 @@ use Rattle.working_table.proofs.gather.Symbol as gather-def
 use Rattle.working_table.proofs.gather.Symbol.{name as #gather}
 use Rattle.working_table.proofs.gather.Met as gather-thm
 use Rattle.working_table.proofs.Reading.{Asking}
-use Rattle.checker.proofs.Lists.{reaches}
+use Rattle.counting.proofs.Lists.{reaches}
 use Rattle.judging.specs.declared.Judgement.{Judgement}
 use Rattle.judging.proofs.Judgement as D
 use Rattle.judging.proofs.Judgement.Laws as D′

@@ -60,7 +60,7 @@ use Rattle.working_table.proofs.Gathering.{Gather, POwn, gathers}
 use Rattle.working_table.proofs.gather.Symbol as gather-def
 use Rattle.working_table.proofs.gather.Symbol.{name as #gather}
 use Rattle.working_table.proofs.gather.Met as gather-thm
-use Rattle.checker.proofs.Lists.{reaches}
+use Rattle.counting.proofs.Lists.{reaches}
 use Rattle.session.specs.declared.Activated.{Activated}
 use Rattle.session.specs.declared.Session.{Session}
 use Rattle.session.specs.declared.Step.{Step}

@@ -1,0 +1,5 @@
+-- What belongs to no one function.
+pub mod Looking
+pub mod Whole
+pub mod Lists
+pub mod Tries

@@ -1,0 +1,27 @@
+-- `counting::put_pool` meets its contract. Assumes nothing.
+use native.Mathlib.Omega.{arith}
+use Rattle.faults.proofs.Emission.{puts-then}
+use Rattle.naming.proofs.Shown.{shown-long}
+use borrow.Author.Needs.{needs}
+use Rattle.counting.proofs.put_pool.Statement.{statement}
+use Rattle.counting.proofs.put_pool.Tie as tie
+
+put-if-requires : tie.Need-put-if-requires
+put-if-requires c κs = search needs
+
+lacks-machine-requires : tie.Need-lacks-machine-requires
+lacks-machine-requires c κs = search needs
+
+put-if-requires-2 : tie.Need-put-if-requires-2
+put-if-requires-2 c κs = search needs
+
+same-length : tie.Need-same-length
+same-length c = search needs
+
+returns : tie.Need-returns
+returns c = rw (shown-long (c .before .before .before .before .before .before .before .before .before .before .before .before .args .table .now) (c .before .before .before .before .before .before .before .before .before .before .before .before .args .count), ← c .before .before .before .before .before .before .before .before .before .before .before .before .pre .2, ← c .before .before .before .before .lacks-machine .ensures) (puts-then (c .before .before .before .before .before .before .before .put-if .ensures .0) (c .before .before .put-if2 .ensures .0), omega (arith, c .before .before .before .before .before .before .before .put-if .ensures .1, c .before .before .put-if2 .ensures .1))
+
+pub put-pool-spec : {M : Type 1} → statement M
+put-pool-spec =
+    tie.close
+    (tie.spec put-if-requires lacks-machine-requires put-if-requires-2 same-length returns)

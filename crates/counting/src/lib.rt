@@ -1,0 +1,366 @@
+// Counting the faults of a pool that has been listed, with lists that are as short as the pool allows: clearing long ones would take
+// most of the time.
+mod sound;
+
+ghost use mathlib.Core.Path.{_≡_};
+ghost use mathlib.Core.Bool.{true, cond};
+ghost use Prim.Native.Nat.{_*_, _≤_, _<_};
+ghost use lib.Dec.{eqb};
+ghost use lib.ListN.{length};
+ghost use Rattle.records.specs.Fields.{elementOf};
+ghost use Rattle.pool.specs.Reading.{width};
+ghost use Rattle.faults.specs.Emission.{Emits, Puts};
+ghost use Rattle.naming.specs.Records.{kindAt};
+ghost use Rattle.naming.specs.Naming.{firstOf, typeKey};
+ghost use Rattle.naming.specs.Lists.{shown, Blank, Roomy};
+ghost use Rattle.rules.specs.Table.{poolRows, breachesIn};
+ghost use Rattle.breaches.specs.Lists.{Prepared, Lent};
+ghost use Rattle.leading.specs.Leading.{Led};
+ghost use Rattle.counting.specs.Trying.{Completes, Told};
+
+// A try with lists of some length: what was counted, or that the lists are too short for this pool.
+enum Tried {
+    Counted(usize),
+    Short,
+}
+
+// The number of the first device, 0 for none.
+fn first_device(table: &[u16], count: usize) -> u16
+    requires { ⌜ (count * width ≤ length (now table)) × (count ≤ 8192) ⌝ }
+    ensures { λ r. ⌜ r ≡ firstOf (kindAt (shown (now (table .entry)) count)) 1 count ⌝ }
+{
+    let mut i: usize = 0;
+    while i < count {
+        if table[i * 4 + 2] == 1 {
+            return (i + 1) as u16;
+        }
+        i += 1;
+    }
+    0
+}
+
+// Whether a record is a device element of type 1.
+fn is_machine(p: &[u8], at: u16, kind: u16) -> bool
+    ensures { λ r. ⌜ r ≡ eqb (cond (eqb kind 2) (elementOf (now (p .entry)) at .«element_type») 256) 1 ⌝ }
+{
+    if kind == 2 {
+        return records::view::device_element(p, at).element_type == 1;
+    }
+    false
+}
+
+// Whether no record is a device element of type 1.
+fn lacks_machine(p: &[u8], table: &[u16], count: usize) -> bool
+    requires { ⌜ (count * width ≤ length (now table)) × (count ≤ 8192) ⌝ }
+    ensures { λ r. ⌜ r ≡ eqb (firstOf (typeKey (now (p .entry)) (shown (now (table .entry)) count)) 1 count) 0 ⌝ }
+{
+    let mut i: usize = 0;
+    while i < count {
+        if is_machine(p, table[i * 4], table[i * 4 + 2]) {
+            return false;
+        }
+        i += 1;
+    }
+    true
+}
+
+// Rules 10 and 11, of the whole pool.
+fn put_pool(p: &[u8], table: &[u16], count: usize, device: u16, faults: &mut [u16]) -> usize
+    requires { ⌜ (count * width ≤ length (now table)) × (count ≤ 8192) × (device ≡ firstOf (kindAt (shown (now table) count)) 1 count) ⌝ }
+    ensures { λ r. ⌜ Puts 0 (poolRows (now (p .entry)) (shown (now (table .entry)) count)) (now (faults .entry)) 0 (now (faults .exit)) r × (r ≤ 2) ⌝ }
+{
+    let n = faults::put_if(device == 0, faults, 0, 0, 10, 1);
+    faults::put_if(lacks_machine(p, table, count), faults, n, 0, 11, 1)
+}
+
+// The faults of a pool that has been prepared, in order, from a record on: the records before have none. The first device's
+// number is given, 0 where there is none. Behind a record with a fault most often comes another one: then no time goes into a look
+// whether it has none.
+fn put_rest(
+    p: &[u8],
+    table: &[u16],
+    count: usize,
+    index: &[u16],
+    numbers: &[u16],
+    ups: &[u16],
+    device: u16,
+    room: usize,
+    list: &mut [u16],
+    seen: &mut [u16],
+    from: usize,
+    faults: &mut [u16],
+    start: usize,
+) -> usize
+    requires { ⌜ Prepared (now p) (now table) count (now index) (now numbers) (now ups) × Roomy (now p) (shown (now table) count) room × Lent room (now list) (now seen) × (device ≡ firstOf (kindAt (shown (now table) count)) 1 count) × Led (now p) (shown (now table) count) count from × (start ≤ 2) ⌝ }
+    ensures { λ r. ⌜ Completes (now (p .entry)) (shown (now (table .entry)) count) (now (faults .entry)) start (now (faults .exit)) r ⌝ }
+{
+    let mut n = start;
+    let mut i = from;
+    let mut looks = false;
+    while i < count {
+        let before = n;
+        n = breaches::record::put_record(
+            p,
+            table,
+            count,
+            index,
+            numbers,
+            ups,
+            device,
+            room,
+            list,
+            seen,
+            i,
+            looks,
+            faults,
+            n,
+        );
+        looks = n == before;
+        i += 1;
+    }
+    n
+}
+
+// Finds out what IDs name and which chains end. Tells whether the lists are long enough for this pool.
+fn prepare(
+    p: &[u8],
+    table: &[u16],
+    count: usize,
+    index: &mut [u16],
+    numbers: &mut [u16],
+    ups: &mut [u16],
+    room: usize,
+) -> bool
+    requires { ⌜ (count * width ≤ length (now table)) × (count ≤ 8192) × Blank (now index) × Blank (now numbers) × Blank (now ups) × (count < length (now ups)) ⌝ }
+    ensures { λ r. ⌜ (r ≡ true → Prepared (now (p .entry)) (now (table .entry)) count (now (index .exit)) (now (numbers .exit)) (now (ups .exit)) × Roomy (now (p .entry)) (shown (now (table .entry)) count) room) × (65536 ≤ length (now (index .entry)) → 65536 ≤ length (now (numbers .entry)) → Roomy (now (p .entry)) (shown (now (table .entry)) count) room → r ≡ true) ⌝ }
+{
+    if !naming::index_ids(table, count, index) {
+        return false;
+    }
+    if !naming::index_numbers(p, table, count, room, numbers) {
+        return false;
+    }
+    naming::chains(p, table, count, index, ups);
+    true
+}
+
+// Short lists, for a short pool with small IDs: clearing long ones would take most of the time.
+fn try_short(
+    p: &[u8],
+    table: &[u16],
+    count: usize,
+    device: u16,
+    from: usize,
+    faults: &mut [u16],
+    start: usize,
+) -> Tried
+    requires { ⌜ (count * width ≤ length (now table)) × (count ≤ 8192) × (device ≡ firstOf (kindAt (shown (now table) count)) 1 count) × Led (now p) (shown (now table) count) count from × (start ≤ 2) ⌝ }
+    ensures { λ r. ⌜ Told (now (p .entry)) (shown (now (table .entry)) count) (now (faults .entry)) start (now (faults .exit)) r ⌝ }
+{
+    if 127 < count {
+        return Tried::Short;
+    }
+    let mut index = [0u16; 512];
+    let mut numbers = [0u16; 512];
+    let mut ups = [0u16; 128];
+    if !prepare(p, table, count, &mut index, &mut numbers, &mut ups, 128) {
+        return Tried::Short;
+    }
+    let mut list = [0u16; 128];
+    let mut seen = [0u16; 1024];
+    Tried::Counted(put_rest(
+        p,
+        table,
+        count,
+        &index,
+        &numbers,
+        &ups,
+        device,
+        128,
+        &mut list,
+        &mut seen,
+        from,
+        faults,
+        start,
+    ))
+}
+
+// Lists for a pool of any length with the IDs, element numbers and lists of entries that implements use.
+fn try_middle(
+    p: &[u8],
+    table: &[u16],
+    count: usize,
+    device: u16,
+    from: usize,
+    faults: &mut [u16],
+    start: usize,
+) -> Tried
+    requires { ⌜ (count * width ≤ length (now table)) × (count ≤ 8192) × (device ≡ firstOf (kindAt (shown (now table) count)) 1 count) × Led (now p) (shown (now table) count) count from × (start ≤ 2) ⌝ }
+    ensures { λ r. ⌜ Told (now (p .entry)) (shown (now (table .entry)) count) (now (faults .entry)) start (now (faults .exit)) r ⌝ }
+{
+    let mut index = [0u16; 8192];
+    let mut numbers = [0u16; 8192];
+    let mut ups = [0u16; 8193];
+    if !prepare(p, table, count, &mut index, &mut numbers, &mut ups, 1024) {
+        return Tried::Short;
+    }
+    let mut list = [0u16; 1024];
+    let mut seen = [0u16; 1024];
+    Tried::Counted(put_rest(
+        p,
+        table,
+        count,
+        &index,
+        &numbers,
+        &ups,
+        device,
+        1024,
+        &mut list,
+        &mut seen,
+        from,
+        faults,
+        start,
+    ))
+}
+
+// The same for lists of entries of any length.
+fn try_wide(
+    p: &[u8],
+    table: &[u16],
+    count: usize,
+    device: u16,
+    from: usize,
+    faults: &mut [u16],
+    start: usize,
+) -> Tried
+    requires { ⌜ (count * width ≤ length (now table)) × (count ≤ 8192) × (device ≡ firstOf (kindAt (shown (now table) count)) 1 count) × Led (now p) (shown (now table) count) count from × (start ≤ 2) ⌝ }
+    ensures { λ r. ⌜ Told (now (p .entry)) (shown (now (table .entry)) count) (now (faults .entry)) start (now (faults .exit)) r ⌝ }
+{
+    let mut index = [0u16; 8192];
+    let mut numbers = [0u16; 8192];
+    let mut ups = [0u16; 8193];
+    if !prepare(p, table, count, &mut index, &mut numbers, &mut ups, 32768) {
+        return Tried::Short;
+    }
+    let mut list = [0u16; 32768];
+    let mut seen = [0u16; 32768];
+    Tried::Counted(put_rest(
+        p,
+        table,
+        count,
+        &index,
+        &numbers,
+        &ups,
+        device,
+        32768,
+        &mut list,
+        &mut seen,
+        from,
+        faults,
+        start,
+    ))
+}
+
+// Lists for every pool.
+fn count_long(
+    p: &[u8],
+    table: &[u16],
+    count: usize,
+    device: u16,
+    from: usize,
+    faults: &mut [u16],
+    start: usize,
+) -> usize
+    requires { ⌜ (count * width ≤ length (now table)) × (count ≤ 8192) × (device ≡ firstOf (kindAt (shown (now table) count)) 1 count) × Led (now p) (shown (now table) count) count from × (start ≤ 2) × Roomy (now p) (shown (now table) count) 32768 ⌝ }
+    ensures { λ r. ⌜ Completes (now (p .entry)) (shown (now (table .entry)) count) (now (faults .entry)) start (now (faults .exit)) r ⌝ }
+{
+    let mut index = [0u16; 65536];
+    let mut numbers = [0u16; 65536];
+    let mut ups = [0u16; 8193];
+    if !prepare(p, table, count, &mut index, &mut numbers, &mut ups, 32768) {
+        return 0;
+    }
+    let mut list = [0u16; 32768];
+    let mut seen = [0u16; 32768];
+    put_rest(
+        p,
+        table,
+        count,
+        &index,
+        &numbers,
+        &ups,
+        device,
+        32768,
+        &mut list,
+        &mut seen,
+        from,
+        faults,
+        start,
+    )
+}
+
+// Counts and puts the faults of the records from one on, with long lists.
+fn count_wide(
+    p: &[u8],
+    table: &[u16],
+    count: usize,
+    device: u16,
+    from: usize,
+    faults: &mut [u16],
+    start: usize,
+) -> usize
+    requires { ⌜ (count * width ≤ length (now table)) × (count ≤ 8192) × (device ≡ firstOf (kindAt (shown (now table) count)) 1 count) × Led (now p) (shown (now table) count) count from × (start ≤ 2) × Roomy (now p) (shown (now table) count) 32768 ⌝ }
+    ensures { λ r. ⌜ Completes (now (p .entry)) (shown (now (table .entry)) count) (now (faults .entry)) start (now (faults .exit)) r ⌝ }
+{
+    let wide = try_wide(p, table, count, device, from, faults, start);
+    if let Tried::Counted(n) = wide {
+        return n;
+    }
+    count_long(p, table, count, device, from, faults, start)
+}
+
+// Counts and puts the faults of the records, of which so many from the first on have none, with the shortest lists that do.
+fn count_rest(
+    p: &[u8],
+    table: &[u16],
+    count: usize,
+    device: u16,
+    clear: usize,
+    faults: &mut [u16],
+    start: usize,
+) -> usize
+    requires { ⌜ (count * width ≤ length (now table)) × (count ≤ 8192) × (device ≡ firstOf (kindAt (shown (now table) count)) 1 count) × Led (now p) (shown (now table) count) count clear × (start ≤ 2) × Roomy (now p) (shown (now table) count) 32768 ⌝ }
+    ensures { λ r. ⌜ Completes (now (p .entry)) (shown (now (table .entry)) count) (now (faults .entry)) start (now (faults .exit)) r ⌝ }
+{
+    let from = sound::widened(p, table, count, device, clear, start);
+    if from == count {
+        return start;
+    }
+    let short = try_short(p, table, count, device, from, faults, start);
+    if let Tried::Counted(n) = short {
+        return n;
+    }
+    let middle = try_middle(p, table, count, device, from, faults, start);
+    if let Tried::Counted(n) = middle {
+        return n;
+    }
+    count_wide(p, table, count, device, from, faults, start)
+}
+
+// Counts and puts the faults of a pool that has been read into a table. Where the pool as a whole has none, most often no
+// record has one.
+pub fn count_faults(p: &[u8], table: &[u16], count: usize, faults: &mut [u16]) -> usize
+    requires { ⌜ (count * width ≤ length (now table)) × (count ≤ 8192) × Roomy (now p) (shown (now table) count) 32768 ⌝ }
+    ensures { λ r. ⌜ Emits (now (faults .entry)) 0 (breachesIn (now (p .entry)) (shown (now (table .entry)) count)) (now (faults .exit)) r ⌝ }
+{
+    let device = first_device(table, count);
+    let start = put_pool(p, table, count, device, faults);
+    if 0 < start {
+        return count_rest(p, table, count, device, 0, faults, start);
+    }
+    let from = sound::leading(p, table, count, device);
+    if from == count {
+        return start;
+    }
+    count_rest(p, table, count, device, from, faults, start)
+}
