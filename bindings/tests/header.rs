@@ -11,9 +11,9 @@ use std::path::{Path, PathBuf};
 const STRUCTS: [(&str, &str, &str); 10] = [
     ("working_table", "Record", "Record"),
     ("device", "DeviceLabels", "DeviceLabels"),
-    ("terminal", "ClientSession", "ClientSession"),
-    ("terminal", "ClientStep", "ClientStep"),
-    ("terminal", "MessageFields", "MessageFields"),
+    ("client", "ClientSession", "ClientSession"),
+    ("client", "ClientStep", "ClientStep"),
+    ("answers", "MessageFields", "MessageFields"),
     ("time_log", "Fields", "LogFields"),
     ("time_log", "Marks", "LogMarks"),
     ("time_log", "Record", "LogRecord"),

@@ -19,7 +19,7 @@ use Rattle.claims.specs.Reads.{Sized, Reads, listed}
 use Rattle.claims.specs.Checks.{Checked}
 use Rattle.claims.proofs.Verdict.{reading}
 use Rattle.claims.proofs.Checking.{checking}
-use Rattle.session.proofs.Settled.{check-number}
+use Rattle.activation.proofs.Settled.{check-number}
 use Rattle.book.specs.Book.{Book, checked}
 use Rattle.book.specs.Claim.{Accepted}
 use Rattle.book.proofs.Steps.{by-case}

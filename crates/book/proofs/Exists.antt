@@ -15,6 +15,7 @@ use Rattle.rules.specs.Table.{breachesOf}
 use Rattle.checker.specs.Checking.{checkOf}
 use Rattle.session.specs.Answers.{replyOf}
 use Rattle.session.specs.Calls as S
+use Rattle.activation.specs.Activating as Act
 use Rattle.session.specs.declared.Answer.the-variants.{Done, NoMark, Cut, LengthOver, TooMany, TableShort, BadSize, NotOffered, BadPiece, Incomplete, Faulty, NotActive, NoRoom, CannotArise}
 use Rattle.session.specs.declared.Session.{Session}
 use Rattle.session.specs.declared.Stage.the-variants.{Idle, Offered}
@@ -65,10 +66,10 @@ shape-checked : (p : List ℕ) (room : ℕ) → 1 ≤ length p → length p ≤ 
 unfolding checkOf
 shape-checked p room some few = rw (read-walk p room some few) (shape-picked (length (breachesOf p)) (shape-counted room (scanOf p)))
 
-real-decided : (s : Session) (p : List ℕ) (a : Answer) → Shape a → Real (S.decided s p a)
+real-decided : (s : Session) (p : List ℕ) (a : Answer) → Shape a → Real (Act.decided s p a)
 real-decided s p a (shape-read n) =
     either (not (eqb n 0))
-    (λ e. record { step = record { session = S.ended s; answer = Faulty (S.firstIn (breachesOf p) .number) (S.firstIn (breachesOf p) .rule) (S.firstIn (breachesOf p) .item) }; tells = refl })
+    (λ e. record { step = record { session = S.ended s; answer = Faulty (Act.firstIn (breachesOf p) .number) (Act.firstIn (breachesOf p) .rule) (Act.firstIn (breachesOf p) .item) }; tells = refl })
     (λ e. record { step = record { session = record { stage = Idle; announced = 0; received = 0; kept = length p; active = true }; answer = Done }; tells = refl })
 real-decided s p a (shape-mark at) = record { step = record { session = S.ended s; answer = NoMark at }; tells = refl }
 real-decided s p a (shape-cut at) = record { step = record { session = S.ended s; answer = Cut at }; tells = refl }
@@ -96,8 +97,8 @@ real-transfer s piece ls =
     either (ltb ls (s .announced)) (λ e. record { step = record { session = s; answer = NoRoom }; tells = refl })
     (λ e. record { step = record { session = _; answer = Done }; tells = refl }))))
 
-real-activate : (s : Session) (staging kept : List ℕ) (room : ℕ) → Real (S.activateOf s staging (length kept) room)
-unfolding S.activateOf S.keptActivated S.settled
+real-activate : (s : Session) (staging kept : List ℕ) (room : ℕ) → Real (Act.activateOf s staging (length kept) room)
+unfolding Act.activateOf Act.keptActivated Act.settled
 real-activate s staging kept room =
     either (S.impossible s) (λ e. impossible-told s) (λ e.
     either (not (S.isOffered (s .stage)))
@@ -147,7 +148,7 @@ one (transfer p) s st k =
     record { step = r .step; staging = S.stagingAfter s p st; area = k; does = does-transfer ([], ([], tt)) s (ref p) (ref st) k (r .step) (S.stagingAfter s p st) tt (r .tells, refl) }
 one (activate t) s st k =
     let r = real-activate s st k (length t) in
-    record { step = r .step; staging = st; area = S.keptAfter s st k (length t); does = does-activate ([], ([], ([], tt))) s (ref st) (ref k) (ref t) (r .step) (S.keptAfter s st k (length t)) (S.activatedRecords s st (length k) t) (r .tells, refl, refl) }
+    record { step = r .step; staging = st; area = Act.keptAfter s st k (length t); does = does-activate ([], ([], ([], tt))) s (ref st) (ref k) (ref t) (r .step) (Act.keptAfter s st k (length t)) (Act.activatedRecords s st (length k) t) (r .tells, refl, refl) }
 one deactivate s st k = let r = real-deactivate s in record { step = r .step; staging = st; area = k; does = does-deactivate tt s st k (r .step) tt (r .tells) }
 one delete s st k = let r = real-delete s in record { step = r .step; staging = st; area = k; does = does-delete tt s st k (r .step) tt (r .tells) }
 one lost s st k = let r = real-lost s in record { step = r .step; staging = st; area = k; does = does-lost tt s st k (r .step) tt (r .tells) }

@@ -16,6 +16,7 @@ use Rattle.rules.specs.Table.{breachesOf}
 use Rattle.checker.specs.Checking.{checkOf}
 use Rattle.session.specs.Answers.{Reply, replyOf}
 use Rattle.session.specs.Calls as S
+use Rattle.activation.specs.Activating as Act
 use Rattle.session.specs.declared.Session.{Session}
 use Rattle.session.specs.declared.Stage.the-variants.{Offered}
 use Rattle.session.specs.declared.Step.{Step}
@@ -38,7 +39,7 @@ pub record Ok (ls lk : ℕ) (t : S.Told) (m : Noted) (st k : List ℕ) : Type 0 
   pub session : t .session ≡ sessionOf (m .book)
   pub good : Good ls lk (m .book) st k
 
-same-first : (fs : List Fault) → S.firstIn fs ≡ firstIn fs
+same-first : (fs : List Fault) → Act.firstIn fs ≡ firstIn fs
 same-first [] = refl
 same-first (f ∷ fs) = refl
 
@@ -139,8 +140,8 @@ module _ (ls lk : ℕ) (b : Book) (st k : List ℕ) (g : Good ls lk b st k) wher
 
   -- what follows from what checking says
   decided-ok : b .offered ≡ true → length (b .arrived) ≡ b .announced → (a : Answer)
-      → Ok ls lk (S.decided (record { stage = Offered; announced = b .announced; received = length (b .arrived); kept = length (b .kept); active = b .active }) (b .arrived) a)
-      (checked b a) st (S.choose (S.accepted a) (sets k 0 (b .arrived)) k)
+      → Ok ls lk (Act.decided (record { stage = Offered; announced = b .announced; received = length (b .arrived); kept = length (b .kept); active = b .active }) (b .arrived) a)
+      (checked b a) st (S.choose (Act.accepted a) (sets k 0 (b .arrived)) k)
   decided-ok o q a =
       by-case (eqb (a .number) 0)
       (λ e0.
@@ -153,8 +154,8 @@ module _ (ls lk : ℕ) (b : Book) (st k : List ℕ) (g : Good ls lk b st k) wher
       (λ e1. simp (e0, e1) (record { said = refl; session = rw o; good = g }))
       (λ e1. simp (e0, e1) (record { said = refl; session = refl; good = over-good ls lk b st k g })))
 
-  activate-ok : (t : List Record) → Ok ls lk (S.activateOf (sessionOf b) st (length k) (length t)) (noted ls lk b (activate t)) st (S.keptAfter (sessionOf b) st k (length t))
-  unfolding S.activateOf S.keptAfter S.isChecked S.keptActivated S.settled S.keptSettled noted
+  activate-ok : (t : List Record) → Ok ls lk (Act.activateOf (sessionOf b) st (length k) (length t)) (noted ls lk b (activate t)) st (Act.keptAfter (sessionOf b) st k (length t))
+  unfolding Act.activateOf Act.keptAfter Act.isChecked Act.keptActivated Act.settled Act.keptSettled noted
   activate-ok t =
       rw (possible ls lk b st k g, offered-stage (b .offered), g .long-st, g .long-k)
       (by-case (b .offered)
@@ -256,8 +257,8 @@ does-ok {ls} {lk} {b} (does-transfer κs s p st k r st' ask post) e g =
     let w : st' ≡ S.stagingAfter (sessionOf b) (now p) (now st) = post .1 ∙ ap (λ (x : Session). S.stagingAfter x (now p) (now st)) e in
     rw (q, w) (transfer-ok ls lk b (now st) k g (now p))
 does-ok {ls} {lk} {b} (does-activate κs s st k t r k' t' post) e g =
-    let q : S.stepOf r ≡ S.activateOf (sessionOf b) (now st) (length (now k)) (length (now t)) = post .0 ∙ ap (λ (x : Session). S.activateOf x (now st) (length (now k)) (length (now t))) e in
-    let w : k' ≡ S.keptAfter (sessionOf b) (now st) (now k) (length (now t)) = post .1 ∙ ap (λ (x : Session). S.keptAfter x (now st) (now k) (length (now t))) e in
+    let q : S.stepOf r ≡ Act.activateOf (sessionOf b) (now st) (length (now k)) (length (now t)) = post .0 ∙ ap (λ (x : Session). Act.activateOf x (now st) (length (now k)) (length (now t))) e in
+    let w : k' ≡ Act.keptAfter (sessionOf b) (now st) (now k) (length (now t)) = post .1 ∙ ap (λ (x : Session). Act.keptAfter x (now st) (now k) (length (now t))) e in
     rw (q, w) (activate-ok ls lk b (now st) (now k) g (now t))
 does-ok {ls} {lk} {b} (does-deactivate κs s st k r ask post) e g =
     let q : S.stepOf r ≡ S.deactivateOf (sessionOf b) = post ∙ ap S.deactivateOf e in

@@ -17,7 +17,8 @@ use Rattle.faults.specs.Faults.{fault}
 use Rattle.rules.specs.Table.{breachesOf}
 use Rattle.checker.specs.Checking.{checkOf}
 use Rattle.session.specs.Calls as S
-use Rattle.session.proofs.Settled.{check-low}
+use Rattle.activation.specs.Activating as Act
+use Rattle.activation.proofs.Settled.{check-low}
 use Rattle.session.specs.declared.Session.{Session}
 use Rattle.session.specs.declared.Step.{Step}
 use Rattle.book.specs.Book.{Said, said, Book, Noted, noted, note, checked, firstIn, Call, offer, transfer, activate, deactivate, delete, lost}
@@ -63,7 +64,7 @@ module _ (ls lk : ℕ) (b : Book) (st k : List ℕ) (g : Good ls lk b st k) wher
   deactivate-kept = by-case (b .active) (λ a. simp a) (λ a. simp a)
 
   checked-turn : (t : List Record) → b .offered ≡ true → length (b .arrived) ≤ length k → (a : Answer)
-      → Turn b (checked b a .book) k (activate t) (checked b a .told) (S.choose (S.accepted a) (sets k 0 (b .arrived)) k)
+      → Turn b (checked b a .book) k (activate t) (checked b a .told) (S.choose (Act.accepted a) (sets k 0 (b .arrived)) k)
   checked-turn t o room a =
       by-case (eqb (a .number) 0)
       (λ e0. by-case (eqb (a .value) 0)
@@ -83,21 +84,21 @@ module _ (ls lk : ℕ) (b : Book) (st k : List ℕ) (g : Good ls lk b st k) wher
   noted-as c e f h = rw (e, f) h
 
   -- the area where checking is not reached
-  untouched : (room : ℕ) → (b .offered ≡ false) ⊎ (ltb (length (b .arrived)) (b .announced) ≡ true) → S.keptAfter (sessionOf b) st k room ≡ k
-  unfolding S.keptAfter S.isChecked
+  untouched : (room : ℕ) → (b .offered ≡ false) ⊎ (ltb (length (b .arrived)) (b .announced) ≡ true) → Act.keptAfter (sessionOf b) st k room ≡ k
+  unfolding Act.keptAfter Act.isChecked
   untouched room =
       rw (possible ls lk b st k g, offered-stage (b .offered))
       (⊎-elim (λ (o : b .offered ≡ false). rw o) (λ (e : ltb (length (b .arrived)) (b .announced) ≡ true). by-case (b .offered) (λ o. rw (o, e)) (λ o. rw o)))
 
   reached : (room : ℕ) → b .offered ≡ true → ltb (length (b .arrived)) (b .announced) ≡ false
-      → S.keptAfter (sessionOf b) st k room ≡ S.choose (S.accepted (checkOf (b .arrived) room)) (sets k 0 (b .arrived)) k
-  unfolding S.keptAfter S.isChecked S.keptSettled
+      → Act.keptAfter (sessionOf b) st k room ≡ S.choose (Act.accepted (checkOf (b .arrived) room)) (sets k 0 (b .arrived)) k
+  unfolding Act.keptAfter Act.isChecked Act.keptSettled
   reached room o e1 =
       let q : length (b .arrived) ≡ b .announced = omega (arith, g .part, ltb-false (length (b .arrived)) (b .announced) e1) in
       let p : take (b .announced) st ≡ b .arrived = ap (λ (n : ℕ). take n st) (sym q) ∙ g .staged in
       rw (possible ls lk b st k g, offered-stage (b .offered), g .long-st, g .long-k, o, e1, le-ltb ls (b .announced) (g .in-st), le-ltb lk (b .announced) (g .in-k), p)
 
-  activate-turn : (t : List Record) → Turn b (noted ls lk b (activate t) .book) k (activate t) (noted ls lk b (activate t) .told) (S.keptAfter (sessionOf b) st k (length t))
+  activate-turn : (t : List Record) → Turn b (noted ls lk b (activate t) .book) k (activate t) (noted ls lk b (activate t) .told) (Act.keptAfter (sessionOf b) st k (length t))
   unfolding noted
   activate-turn t =
       by-case (b .offered)
@@ -136,7 +137,7 @@ unfolding tag
 turn {ls} {lk} {b} (does-offer κs s n st k r ask post) e g = stays (offer n) _ (λ t z. other (offer n) refl t z) (offer-kept ls lk b (now st) (now k) g n)
 turn {ls} {lk} {b} (does-transfer κs s p st k r st' ask post) e g = stays (transfer (now p)) _ (λ t z. other (transfer (now p)) refl t z) (transfer-kept ls lk b (now st) k g (now p))
 turn {ls} {lk} {b} (does-activate κs s st k t r k' t' post) e g =
-    let w : k' ≡ S.keptAfter (sessionOf b) (now st) (now k) (length (now t)) = post .1 ∙ ap (λ (x : Session). S.keptAfter x (now st) (now k) (length (now t))) e in
+    let w : k' ≡ Act.keptAfter (sessionOf b) (now st) (now k) (length (now t)) = post .1 ∙ ap (λ (x : Session). Act.keptAfter x (now st) (now k) (length (now t))) e in
     rw w (activate-turn ls lk b (now st) (now k) g (now t))
 turn {ls} {lk} {b} (does-deactivate κs s st k r ask post) e g = stays deactivate _ (λ t z. other deactivate refl t z) (deactivate-kept ls lk b st k g)
 turn (does-delete κs s st k r ask post) e g = deleted _

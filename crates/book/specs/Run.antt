@@ -17,7 +17,7 @@ use Rattle.session.specs.declared.Step.{Step}
 use Rattle.session.proofs.new.Reads as new-reads
 use Rattle.session.proofs.offer.Reads as offer-reads
 use Rattle.session.proofs.transfer.Reads as transfer-reads
-use Rattle.session.proofs.activate as activate-contract
+use Rattle.activation.proofs.activate as activate-contract
 use Rattle.session.proofs.deactivate.Reads as deactivate-reads
 use Rattle.session.proofs.delete.Reads as delete-reads
 use Rattle.session.proofs.lost.Reads as lost-reads

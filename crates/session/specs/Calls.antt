@@ -1,18 +1,12 @@
--- The session calls: document 01, "One client's session". For each call the value it returns and its reply, and what it leaves
--- in the memory it was lent. Definitions only.
+-- The session calls but for activating: document 01, "One client's session". For each call the value it returns and its reply, and
+-- what it leaves in the memory it was lent. Definitions only.
 use Prim.Native.Nat.{ℕ, _+_, _-_}
 use mathlib.Core.Bool.{Bool, true, false, not, _&&_, _||_}
-use mathlib.Core.List.{List, [], _∷_}
+use mathlib.Core.List.{List}
 use lib.Dec.{eqb, ltb}
-use lib.ListN.{length, take}
+use lib.ListN.{length}
 use lib.Seq.{sets}
-use Rattle.pool.specs.Answer.{Answer}
-use Rattle.faults.specs.Faults.{Fault, fault}
-use Rattle.rules.specs.Table.{breachesOf}
-use Rattle.working_table.specs.declared.Record.{Record}
-use Rattle.working_table.specs.Table.{recordsAfter}
-use Rattle.checker.specs.Checking.{checkOf}
-use Rattle.session.specs.Answers.{Reply, reply, faulty, replyOf}
+use Rattle.session.specs.Answers.{Reply, reply, replyOf}
 use Rattle.session.specs.declared.Stage.{Stage}
 use Rattle.session.specs.declared.Stage.the-variants.{Idle, Offered}
 use Rattle.session.specs.declared.Session.{Session}
@@ -86,62 +80,6 @@ stagingAfter s piece staging =
     choose (eqb (transferOf s piece (length staging) .reply .number) 0)
     (sets staging (s .received) piece)
     staging
-
--- activating with nothing offered, over a kept area of lk bytes
-unfoldable pub keptActivated : Session → ℕ → Told
-keptActivated s lk =
-    choose (eqb (s .kept) 0) (refused s 21)
-    (choose (ltb lk (s .kept)) (refused s 26)
-    (done (record { stage = s .stage; announced = s .announced; received = s .received; kept = s .kept; active = true })))
-
-abbrev pub firstIn : List Fault → Fault
-firstIn [] = fault 0 0 0
-firstIn (f ∷ fs) = f
-
--- what checking makes of an offer: 7 leaves it standing, every other refusal and a fault end the stage
-abbrev pub decided : Session → List ℕ → Answer → Told
-decided s p a =
-    choose (eqb (a .number) 7) (record { session = s; reply = reply (a .number) (a .value) })
-    (choose (not (eqb (a .number) 0)) (record { session = ended s; reply = reply (a .number) (a .value) })
-    (choose (not (eqb (a .value) 0)) (record { session = ended s; reply = faulty (firstIn (breachesOf p)) })
-    (done (record { stage = Idle; announced = 0; received = 0; kept = length p; active = true }))))
-
-unfoldable pub settled : Session → List ℕ → ℕ → Told
-settled s p room = decided s p (checkOf p room)
-
--- accepted: read, and without a fault
-abbrev pub accepted : Answer → Bool
-accepted a = eqb (a .number) 0 && eqb (a .value) 0
-
--- the kept area then starts with the pool, if it is accepted
-unfoldable pub keptSettled : List ℕ → ℕ → List ℕ → List ℕ
-keptSettled p room kept = choose (accepted (checkOf p room)) (sets kept 0 p) kept
-
--- activating an offer that can be looked at: all of it has arrived, and both areas are long enough
-abbrev pub complete : Session → ℕ → ℕ → Told → Told
-complete s ls lk t =
-    choose (ltb (s .received) (s .announced)) (refused s 23)
-    (choose (ltb ls (s .announced) || ltb lk (s .announced)) (refused s 26) t)
-
--- activating over a kept area of lk bytes, with a table of so many entries
-unfoldable pub activateOf : Session → List ℕ → ℕ → ℕ → Told
-activateOf s staging lk room =
-    judged s
-    (choose (not (isOffered (s .stage))) (keptActivated s lk)
-    (complete s (length staging) lk (settled s (take (s .announced) staging) room)))
-
--- whether checking is reached at all
-unfoldable pub isChecked : Session → ℕ → ℕ → Bool
-isChecked s ls lk =
-    not (impossible s) && (isOffered (s .stage) && (not (ltb (s .received) (s .announced)) && not (ltb ls (s .announced) || ltb lk (s .announced))))
-
--- the kept area and the table change only where checking is reached
-unfoldable pub keptAfter : Session → List ℕ → List ℕ → ℕ → List ℕ
-keptAfter s staging kept room =
-    choose (isChecked s (length staging) (length kept)) (keptSettled (take (s .announced) staging) room kept) kept
-
-unfoldable pub activatedRecords : Session → List ℕ → ℕ → List Record → List Record
-activatedRecords s staging lk table = choose (isChecked s (length staging) lk) (recordsAfter (take (s .announced) staging) table) table
 
 unfoldable pub deactivateOf : Session → Told
 deactivateOf s =

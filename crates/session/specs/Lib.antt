@@ -1,4 +1,3 @@
 -- What the contracts of `session` cite, in the order to read it.
 pub mod Answers
 pub mod Calls
-pub mod Rows

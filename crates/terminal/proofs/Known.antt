@@ -4,12 +4,14 @@ use Prim.Native.Nat.{ℕ}
 use mathlib.Core.Bool.{Bool, true, false}
 use mathlib.Core.List.{List}
 use mathlib.Core.Path.{_≡_, refl, sym, ap}
-use Rattle.session.specs.Calls.{choose, impossible, activateOf, isChecked, keptAfter, activatedRecords}
+use Rattle.session.specs.Calls.{choose, impossible}
+use Rattle.activation.specs.Activating.{activateOf, isChecked, keptAfter, activatedRecords}
 use Rattle.session.specs.declared.Session.{Session}
 use Rattle.session.specs.declared.Stage.the-variants.{Idle}
 use Rattle.working_table.specs.declared.Record.{Record}
-use Rattle.terminal.specs.Sessions.{isKnown, valueOf, outcome, left, leftRecords, sessionIn}
-use Rattle.terminal.specs.declared.sessions.ClientSession.{ClientSession}
+use Rattle.client.specs.Sessions.{isKnown, valueOf, outcome, left, sessionIn}
+use Rattle.terminal.specs.Tables.{leftRecords}
+use Rattle.client.specs.declared.ClientSession.{ClientSession}
 
 abbrev never : Session
 never = record { stage = Idle; announced = 65536; received = 0; kept = 0; active = false }

@@ -1,3 +1,2 @@
 -- What belongs to no one function.
-pub mod Giving
 pub mod Known

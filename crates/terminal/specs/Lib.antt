@@ -1,5 +1,4 @@
 -- What the contracts of `terminal` cite.
-pub mod Numbers
-pub mod Sessions
+pub mod Texts
+pub mod Tables
 pub mod Display
-pub mod Exchange

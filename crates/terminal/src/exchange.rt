@@ -1,84 +1,20 @@
 // Process data messages for C: read, written and judged.
-use judging::Judgement;
-use messages::Message;
+use answers::MessageFields;
 use working_table::Record;
 ghost use mathlib.Core.Path.{_≡_};
 ghost use lib.ListN.{length};
-ghost use Rattle.messages.specs.Reading.{refused, fieldsOf, readOf};
+ghost use Rattle.messages.specs.Reading.{readOf};
 ghost use Rattle.messages.specs.Writing.{valueRefusal, valueAfter, acknowledgeRefusal, acknowledgeAfter};
 ghost use Rattle.judging.specs.Judging.{judgeNumber, judgeError};
 ghost use Rattle.device_pool.specs.Tables.{judgedRecords};
-ghost use Rattle.terminal.specs.Exchange.{fieldsIn};
-
-// A message that is read: number 0 and its fields, an acknowledge with command 13, or the number of a refusal with zeros.
-#[repr(C)]
-pub struct MessageFields {
-    pub number: u32,
-    pub command: u8,
-    pub element: u16,
-    pub ddi: u16,
-    pub value: i32,
-    pub errors: u8,
-    pub answered: u8,
-}
-
-fn give_refusal(number: u32) -> MessageFields
-    ensures { λ r. ⌜ fieldsIn r ≡ refused number ⌝ }
-{
-    MessageFields {
-        number,
-        command: 0,
-        element: 0,
-        ddi: 0,
-        value: 0,
-        errors: 0,
-        answered: 0,
-    }
-}
-
-fn give_message(message: Message) -> MessageFields
-    ensures { λ r. ⌜ fieldsIn r ≡ fieldsOf message ⌝ }
-{
-    match message {
-        Message::Value {
-            command,
-            element,
-            ddi,
-            value,
-        } => MessageFields {
-            number: 0,
-            command,
-            element,
-            ddi,
-            value,
-            errors: 0,
-            answered: 0,
-        },
-        Message::Acknowledge {
-            element,
-            ddi,
-            errors,
-            answered,
-        } => MessageFields {
-            number: 0,
-            command: 13,
-            element,
-            ddi,
-            value: 0,
-            errors,
-            answered,
-        },
-        Message::NotEight => give_refusal(30),
-        Message::NoCommand => give_refusal(31),
-    }
-}
+ghost use Rattle.answers.specs.Exchange.{fieldsIn};
 
 // Reads a message.
 #[no_mangle]
 pub extern "C" fn lachsbrille_message_read(bytes: &[u8]) -> MessageFields
     ensures { λ r. ⌜ fieldsIn r ≡ readOf (now (bytes .entry)) ⌝ }
 {
-    give_message(messages::read(bytes))
+    answers::give_message(messages::read(bytes))
 }
 
 // Writes a value message.
@@ -109,13 +45,6 @@ pub extern "C" fn lachsbrille_message_write_acknowledge(
     messages::number_of(messages::write_acknowledge(to, element, ddi, errors, answered))
 }
 
-fn give_judgement(judgement: Judgement, error: &mut u8) -> u32
-    ensures { λ r. ⌜ (r ≡ judgement .number) × (now (error .exit) ≡ judgement .error) ⌝ }
-{
-    *error = judgement.error;
-    judgement.number
-}
-
 // Judges a command to the device: the error byte goes into the lent byte, 0 where the call is refused.
 #[no_mangle]
 pub extern "C" fn lachsbrille_judge(
@@ -130,5 +59,5 @@ pub extern "C" fn lachsbrille_judge(
     ensures { λ r. ⌜ (r ≡ judgeNumber (now (p .entry)) (length (now (table .entry))) element) × (now (error .exit) ≡ judgeError (now (p .entry)) (length (now (table .entry))) command element ddi value) × (now (table .exit) ≡ judgedRecords (now (p .entry)) (now (table .entry)) element) ⌝ }
 {
     let judgement = device_pool::judge(p, table, command, element, ddi, value);
-    give_judgement(judgement, error)
+    answers::give_judgement(judgement, error)
 }

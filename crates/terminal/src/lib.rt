@@ -1,9 +1,6 @@
 // The C interface: numbers and lent memory. A refusal is its number; what goes with it is put into a lent number. The working
 // table is a lent slice of records.
-use checker::Verdict;
 use device::DeviceLabels;
-use device::Place;
-use pool::Outcome;
 use working_table::Record;
 
 pub mod display;
@@ -13,20 +10,13 @@ pub mod sessions;
 
 ghost use mathlib.Core.Path.{_≡_};
 ghost use lib.ListN.{length};
-ghost use Rattle.pool.specs.Answer.{answerOf};
 ghost use Rattle.pool.specs.Reading.{readOf};
 ghost use Rattle.working_table.specs.Table.{recordsAfter};
 ghost use Rattle.text.specs.Examined.{soundText};
-ghost use Rattle.checker.specs.Checking.{verdictOf, checkOf, faultsAfter};
+ghost use Rattle.checker.specs.Checking.{checkOf, faultsAfter};
 ghost use Rattle.device.specs.Queries.{Labelled};
-ghost use Rattle.terminal.specs.Numbers.{Says, Gives};
-
-fn give_outcome(outcome: Outcome, value: &mut usize) -> u32
-    ensures { λ r. ⌜ Says (answerOf outcome) r (now (value .exit)) ⌝ }
-{
-    *value = pool::value_of(outcome);
-    pool::number_of(outcome)
-}
+ghost use Rattle.answers.specs.Numbers.{Says};
+ghost use Rattle.terminal.specs.Texts.{Gives};
 
 // Reads a pool into the table: the count of records or the refusal's place goes into the lent number.
 #[no_mangle]
@@ -34,14 +24,7 @@ pub extern "C" fn lachsbrille_read(p: &[u8], table: &mut [Record], value: &mut u
     ensures { λ r. ⌜ Says (readOf (now (p .entry)) (length (now (table .entry)))) r (now (value .exit)) × (now (table .exit) ≡ recordsAfter (now (p .entry)) (now (table .entry))) ⌝ }
 {
     let outcome = working_table::read(p, table);
-    give_outcome(outcome, value)
-}
-
-fn give_verdict(verdict: Verdict, value: &mut usize) -> u32
-    ensures { λ r. ⌜ Says (verdictOf verdict) r (now (value .exit)) ⌝ }
-{
-    *value = checker::value_of(verdict);
-    checker::number_of(verdict)
+    answers::give_outcome(outcome, value)
 }
 
 // Checks a pool: the full count of faults or the refusal's place goes into the lent number.
@@ -55,7 +38,7 @@ pub extern "C" fn lachsbrille_check(
     ensures { λ r. ⌜ Says (checkOf (now (p .entry)) (length (now (table .entry)))) r (now (value .exit)) × (now (table .exit) ≡ recordsAfter (now (p .entry)) (now (table .entry))) × (now (faults .exit) ≡ faultsAfter (now (p .entry)) (length (now (table .entry))) (now (faults .entry))) ⌝ }
 {
     let verdict = checker::check(p, table, faults);
-    give_verdict(verdict, value)
+    answers::give_verdict(verdict, value)
 }
 
 // Whether a text keeps rule 4.
@@ -64,14 +47,6 @@ pub extern "C" fn lachsbrille_text_is_sound(s: &[u8]) -> bool
     ensures { λ r. ⌜ r ≡ soundText (now (s .entry)) ⌝ }
 {
     text::is_sound(s)
-}
-
-fn give_place(place: Place, from: &mut usize, to: &mut usize) -> u32
-    ensures { λ r. ⌜ (r ≡ place .number) × (now (from .exit) ≡ place .from) × (now (to .exit) ≡ place .to) ⌝ }
-{
-    *from = place.from;
-    *to = place.to;
-    place.number
 }
 
 // Where the text of the first record with an ID stands in the pool: from one lent place up to the other.
@@ -86,7 +61,7 @@ pub extern "C" fn lachsbrille_text(
     ensures { λ r. ⌜ Gives (now (p .entry)) (length (now (table .entry))) id r (now (from .exit)) (now (to .exit)) × (now (table .exit) ≡ recordsAfter (now (p .entry)) (now (table .entry))) ⌝ }
 {
     let place = device_pool::find_text(p, table, id);
-    give_place(place, from, to)
+    answers::give_place(place, from, to)
 }
 
 // The labels of the device, as a struct by value.

@@ -51,11 +51,11 @@ use Rattle.checker.proofs.check as core
 use Rattle.checker.proofs.check.Symbol as core-def
 use Rattle.checker.proofs.check.Symbol.{name as #core}
 use Rattle.checker.proofs.check.Met as core-thm
-use Rattle.terminal.specs.Numbers.{Says}
-use Rattle.terminal.proofs.Giving.{Give, gives}
-use Rattle.terminal.proofs.give_verdict.Symbol as give-def
-use Rattle.terminal.proofs.give_verdict.Symbol.{name as #give}
-use Rattle.terminal.proofs.give_verdict.Met as give-thm
+use Rattle.answers.specs.Numbers.{Says}
+use Rattle.answers.proofs.Giving.{Give, gives}
+use Rattle.answers.proofs.give_verdict.Symbol as give-def
+use Rattle.answers.proofs.give_verdict.Symbol.{name as #give}
+use Rattle.answers.proofs.give_verdict.Met as give-thm
 use Rattle.terminal.proofs.lachsbrille_check.Key.{name as #check}
 use Rattle.terminal.proofs.lachsbrille_check as check
 use Rattle.terminal.proofs.lachsbrille_check.Statement as stated
@@ -199,4 +199,4 @@ lachsbrille-check-spec 𝓤 H 𝓜 𝓖 𝓡 =
     (tables 𝓤 H 𝓜 𝓡 code.env .C) (tables 𝓤 H 𝓜 𝓡 code.env .Λ) #check code.function (code.unfolded 𝓤 H 𝓜 𝓡)
     (check-meets 𝓤 H (𝓖 .A) (givenOf 𝓤 H 𝓜 𝓖) (𝓜 .mem) (𝓡 .run) (tablesOf 𝓤 H 𝓜 (tables 𝓤 H 𝓜 𝓡 code.env))
     (cited 𝓤 H (Core 𝓤 H (𝓖 .A) (𝓜 .mem) (𝓡 .run)) 𝓜 𝓡 code.env #core core-def.routine code.calls-checker·check (core-thm.met 𝓤 H 𝓜 𝓖 𝓡))
-    (cited 𝓤 H (Given-out 𝓤 H (𝓖 .A)) 𝓜 𝓡 code.env #give give-def.routine code.calls-terminal·give-verdict (give-thm.met 𝓤 H 𝓜 𝓖 𝓡)))
+    (cited 𝓤 H (Given-out 𝓤 H (𝓖 .A)) 𝓜 𝓡 code.env #give give-def.routine code.calls-answers·give-verdict (give-thm.met 𝓤 H 𝓜 𝓖 𝓡)))

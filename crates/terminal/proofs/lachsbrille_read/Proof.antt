@@ -49,11 +49,11 @@ use Rattle.working_table.proofs.Reading.{Any, Reading, mach, reads}
 use Rattle.working_table.proofs.read.Symbol as core-def
 use Rattle.working_table.proofs.read.Symbol.{name as #core}
 use Rattle.working_table.proofs.read.Met as core-thm
-use Rattle.terminal.specs.Numbers.{Says}
-use Rattle.terminal.proofs.Giving.{Give, gives}
-use Rattle.terminal.proofs.give_outcome.Symbol as give-def
-use Rattle.terminal.proofs.give_outcome.Symbol.{name as #give}
-use Rattle.terminal.proofs.give_outcome.Met as give-thm
+use Rattle.answers.specs.Numbers.{Says}
+use Rattle.answers.proofs.Giving.{Give, gives}
+use Rattle.answers.proofs.give_outcome.Symbol as give-def
+use Rattle.answers.proofs.give_outcome.Symbol.{name as #give}
+use Rattle.answers.proofs.give_outcome.Met as give-thm
 use Rattle.terminal.proofs.lachsbrille_read.Key.{name as #read}
 use Rattle.terminal.proofs.lachsbrille_read as read
 use Rattle.terminal.proofs.lachsbrille_read.Statement as stated
@@ -157,4 +157,4 @@ lachsbrille-read-spec 𝓤 H 𝓜 𝓖 𝓡 =
     (tables 𝓤 H 𝓜 𝓡 code.env .C) (tables 𝓤 H 𝓜 𝓡 code.env .Λ) #read code.function (code.unfolded 𝓤 H 𝓜 𝓡)
     (read-meets 𝓤 H (𝓖 .A) (givenOf 𝓤 H 𝓜 𝓖) (𝓜 .mem) (𝓡 .run) (tablesOf 𝓤 H 𝓜 (tables 𝓤 H 𝓜 𝓡 code.env))
     (cited 𝓤 H (Core 𝓤 H (𝓖 .A) (𝓜 .mem) (𝓡 .run)) 𝓜 𝓡 code.env #core core-def.routine code.calls-working-table·read (core-thm.met 𝓤 H 𝓜 𝓖 𝓡))
-    (cited 𝓤 H (Given-out 𝓤 H (𝓖 .A)) 𝓜 𝓡 code.env #give give-def.routine code.calls-terminal·give-outcome (give-thm.met 𝓤 H 𝓜 𝓖 𝓡)))
+    (cited 𝓤 H (Given-out 𝓤 H (𝓖 .A)) 𝓜 𝓡 code.env #give give-def.routine code.calls-answers·give-outcome (give-thm.met 𝓤 H 𝓜 𝓖 𝓡)))

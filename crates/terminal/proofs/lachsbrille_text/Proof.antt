@@ -50,11 +50,11 @@ use Rattle.device_pool.proofs.find_text as core
 use Rattle.device_pool.proofs.find_text.Symbol as core-def
 use Rattle.device_pool.proofs.find_text.Symbol.{name as #core}
 use Rattle.device_pool.proofs.find_text.Met as core-thm
-use Rattle.terminal.specs.Numbers.{Gives}
-use Rattle.terminal.proofs.give_place as give
-use Rattle.terminal.proofs.give_place.Symbol as give-def
-use Rattle.terminal.proofs.give_place.Symbol.{name as #give}
-use Rattle.terminal.proofs.give_place.Met as give-thm
+use Rattle.terminal.specs.Texts.{Gives}
+use Rattle.answers.proofs.give_place as give
+use Rattle.answers.proofs.give_place.Symbol as give-def
+use Rattle.answers.proofs.give_place.Symbol.{name as #give}
+use Rattle.answers.proofs.give_place.Met as give-thm
 use Rattle.terminal.proofs.lachsbrille_text.Key.{name as #text}
 use Rattle.terminal.proofs.lachsbrille_text as text
 use Rattle.terminal.proofs.lachsbrille_text.Statement as stated
@@ -221,4 +221,4 @@ lachsbrille-text-spec 𝓤 H 𝓜 𝓖 𝓡 =
     (tables 𝓤 H 𝓜 𝓡 code.env .C) (tables 𝓤 H 𝓜 𝓡 code.env .Λ) #text code.function (code.unfolded 𝓤 H 𝓜 𝓡)
     (text-meets 𝓤 H (𝓖 .A) (givenOf 𝓤 H 𝓜 𝓖) (𝓜 .mem) (𝓡 .run) (tablesOf 𝓤 H 𝓜 (tables 𝓤 H 𝓜 𝓡 code.env))
     (cited 𝓤 H (Core 𝓤 H (𝓖 .A) (𝓜 .mem) (𝓡 .run)) 𝓜 𝓡 code.env #core core-def.routine code.calls-device-pool·find-text (core-thm.met 𝓤 H 𝓜 𝓖 𝓡))
-    (cited 𝓤 H (Give 𝓤 H (𝓖 .A) (𝓜 .mem) (𝓡 .run)) 𝓜 𝓡 code.env #give give-def.routine code.calls-terminal·give-place (give-thm.met 𝓤 H 𝓜 𝓖 𝓡)))
+    (cited 𝓤 H (Give 𝓤 H (𝓖 .A) (𝓜 .mem) (𝓡 .run)) 𝓜 𝓡 code.env #give give-def.routine code.calls-answers·give-place (give-thm.met 𝓤 H 𝓜 𝓖 𝓡)))

@@ -52,10 +52,10 @@ use Rattle.device_pool.proofs.judge as core
 use Rattle.device_pool.proofs.judge.Symbol as core-def
 use Rattle.device_pool.proofs.judge.Symbol.{name as #core}
 use Rattle.device_pool.proofs.judge.Met as core-thm
-use Rattle.terminal.proofs.Giving.{Give, gives}
-use Rattle.terminal.proofs.exchange.give_judgement.Symbol as give-def
-use Rattle.terminal.proofs.exchange.give_judgement.Symbol.{name as #give}
-use Rattle.terminal.proofs.exchange.give_judgement.Met as give-thm
+use Rattle.answers.proofs.Giving.{Give, gives}
+use Rattle.answers.proofs.give_judgement.Symbol as give-def
+use Rattle.answers.proofs.give_judgement.Symbol.{name as #give}
+use Rattle.answers.proofs.give_judgement.Met as give-thm
 use Rattle.terminal.proofs.exchange.lachsbrille_judge.Key.{name as #judge}
 use Rattle.terminal.proofs.exchange.lachsbrille_judge as judge
 use Rattle.terminal.proofs.exchange.lachsbrille_judge.Statement as stated
@@ -203,4 +203,4 @@ lachsbrille-judge-spec 𝓤 H 𝓜 𝓖 𝓡 =
     (tables 𝓤 H 𝓜 𝓡 code.env .C) (tables 𝓤 H 𝓜 𝓡 code.env .Λ) #judge code.function (code.unfolded 𝓤 H 𝓜 𝓡)
     (judge-meets 𝓤 H (𝓖 .A) (givenOf 𝓤 H 𝓜 𝓖) (𝓜 .mem) (𝓡 .run) (tablesOf 𝓤 H 𝓜 (tables 𝓤 H 𝓜 𝓡 code.env))
     (cited 𝓤 H (Core 𝓤 H (𝓖 .A) (𝓜 .mem) (𝓡 .run)) 𝓜 𝓡 code.env #core core-def.routine code.calls-device-pool·judge (core-thm.met 𝓤 H 𝓜 𝓖 𝓡))
-    (cited 𝓤 H (Given-out 𝓤 H (𝓖 .A)) 𝓜 𝓡 code.env #give give-def.routine code.calls-terminal·exchange·give-judgement (give-thm.met 𝓤 H 𝓜 𝓖 𝓡)))
+    (cited 𝓤 H (Given-out 𝓤 H (𝓖 .A)) 𝓜 𝓡 code.env #give give-def.routine code.calls-answers·give-judgement (give-thm.met 𝓤 H 𝓜 𝓖 𝓡)))

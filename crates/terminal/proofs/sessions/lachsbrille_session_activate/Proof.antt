@@ -1,4 +1,4 @@
--- `terminal::sessions::lachsbrille_session_activate` meets its contract: a walk of its MIR, by hand. `session_of` makes a session of the value, `session::activate` gets it with staging and, for good, the kept area and the table, and `give_client` makes the result of the value and the step.
+-- `terminal::sessions::lachsbrille_session_activate` meets its contract: a walk of its MIR, by hand. `session_of` makes a session of the value, `activation::activate` gets it with staging and, for good, the kept area and the table, and `give_client` makes the result of the value and the step.
 -- All that the proof knows of the three is that they meet their contracts; what activating says of an unknown value is `Known.antt`.
 -- Assumes nothing.
 use mathlib.Core.Path.{_≡_, refl, ap, subst, _∙_}
@@ -40,33 +40,35 @@ use denote.Exit.{yes}
 use Rattle.working_table.specs.declared.Record.{Record}
 use Rattle.working_table.proofs.Rec.{R}
 use Rattle.working_table.proofs.Gathering.{POwn}
-use Rattle.session.specs.Calls.{stepOf, activateOf, keptAfter, activatedRecords}
+use Rattle.session.specs.Calls.{stepOf}
+use Rattle.activation.specs.Activating.{activateOf, keptAfter, activatedRecords}
 use Rattle.session.specs.declared.Session.{Session}
 use Rattle.session.specs.declared.Step.{Step}
 use Rattle.session.proofs.Session as S
 use Rattle.session.proofs.Session.Laws as S′
 use Rattle.session.proofs.Step as T
 use Rattle.session.proofs.Step.Laws as T′
-use Rattle.session.proofs.activate as core
-use Rattle.session.proofs.activate.Symbol as core-def
-use Rattle.session.proofs.activate.Symbol.{name as #core}
-use Rattle.session.proofs.activate.Met as core-thm
-use Rattle.terminal.specs.Sessions.{valueOf, outcome, left, leftRecords, sessionIn}
-use Rattle.terminal.specs.declared.sessions.ClientSession.{ClientSession}
-use Rattle.terminal.specs.declared.sessions.ClientStep.{ClientStep}
-use Rattle.terminal.proofs.sessions.ClientSession as D
-use Rattle.terminal.proofs.sessions.ClientSession.Laws as D′
-use Rattle.terminal.proofs.sessions.ClientStep as G
-use Rattle.terminal.proofs.sessions.ClientStep.Laws as G′
+use Rattle.activation.proofs.activate as core
+use Rattle.activation.proofs.activate.Symbol as core-def
+use Rattle.activation.proofs.activate.Symbol.{name as #core}
+use Rattle.activation.proofs.activate.Met as core-thm
+use Rattle.client.specs.Sessions.{valueOf, outcome, left, sessionIn}
+use Rattle.terminal.specs.Tables.{leftRecords}
+use Rattle.client.specs.declared.ClientSession.{ClientSession}
+use Rattle.client.specs.declared.ClientStep.{ClientStep}
+use Rattle.client.proofs.ClientSession as D
+use Rattle.client.proofs.ClientSession.Laws as D′
+use Rattle.client.proofs.ClientStep as G
+use Rattle.client.proofs.ClientStep.Laws as G′
 use Rattle.terminal.proofs.Known.{outcome-in, kept-in, records-in}
-use Rattle.terminal.proofs.sessions.session_of as make
-use Rattle.terminal.proofs.sessions.session_of.Symbol as make-def
-use Rattle.terminal.proofs.sessions.session_of.Symbol.{name as #make}
-use Rattle.terminal.proofs.sessions.session_of.Met as make-thm
-use Rattle.terminal.proofs.sessions.give_client as give
-use Rattle.terminal.proofs.sessions.give_client.Symbol as give-def
-use Rattle.terminal.proofs.sessions.give_client.Symbol.{name as #give}
-use Rattle.terminal.proofs.sessions.give_client.Met as give-thm
+use Rattle.client.proofs.session_of as make
+use Rattle.client.proofs.session_of.Symbol as make-def
+use Rattle.client.proofs.session_of.Symbol.{name as #make}
+use Rattle.client.proofs.session_of.Met as make-thm
+use Rattle.client.proofs.give_client as give
+use Rattle.client.proofs.give_client.Symbol as give-def
+use Rattle.client.proofs.give_client.Symbol.{name as #give}
+use Rattle.client.proofs.give_client.Met as give-thm
 use Rattle.terminal.proofs.sessions.lachsbrille_session_activate.Key.{name as #activate}
 use Rattle.terminal.proofs.sessions.lachsbrille_session_activate as activate
 use Rattle.terminal.proofs.sessions.lachsbrille_session_activate.Statement as stated
@@ -143,7 +145,7 @@ module _ {M : Type 1} (𝓤 : URA M) (H : Heap 𝓤) (A : Atoms 𝓤) (W : Given
   abbrev TOwn : Fml
   TOwn = MutSlice (named 2) κ″ R .own t (t-val ∷ [])
 
-  -- what `session::activate` says of a session, of a step and of the last lists of the kept area and of the table
+  -- what `activation::activate` says of a session, of a step and of the last lists of the kept area and of the table
   abbrev Activates : Session → Step → List ℕ → List Record → Type 0
   Activates s r gs zs = (stepOf r ≡ activateOf s p (length ks) (length ys)) × (gs ≡ keptAfter s p ks (length ys)) × (zs ≡ activatedRecords s p (length ks) ys)
 
@@ -177,7 +179,7 @@ module _ {M : Type 1} (𝓤 : URA M) (H : Heap 𝓤) (A : Atoms 𝓤) (W : Given
   said-make : (s : Session) → ent 𝓤 (ensured 𝓤 H A make.ended (make.clauses 𝓤 H A mem run) tt (v, tt) tt s) (fact 𝓤 (s ≡ sessionIn v))
   said-make s = exE 𝓤 _ (λ ws. snd∗ 𝓤 (sem 𝓤 H A (lasts make.ended tt (v, tt) ws)) (fact 𝓤 (s ≡ sessionIn v)))
 
-  -- ---- the call of `session::activate`
+  -- ---- the call of `activation::activate`
   abbrev to-core : Session → Core 𝓤 H A mem run .Ghost
   to-core s = (((κ, (κ′, (κ″, tt))), (q, (q′, (q″, tt))), tt, (s, (x, (k, (t, tt)))), (s-vals s, (p-val ∷ [], (k-val ∷ [], (t-val ∷ [], tt))))), tt)
 
@@ -260,6 +262,6 @@ lachsbrille-session-activate-spec 𝓤 H 𝓜 𝓖 𝓡 =
     entered 𝓤 H (tripleOf 𝓤 H (𝓖 .A) activate.signature (activate.spec 𝓤 H (𝓖 .A) (𝓜 .mem) (𝓡 .run)))
     (tables 𝓤 H 𝓜 𝓡 code.env .C) (tables 𝓤 H 𝓜 𝓡 code.env .Λ) #activate code.function (code.unfolded 𝓤 H 𝓜 𝓡)
     (activate-meets 𝓤 H (𝓖 .A) (givenOf 𝓤 H 𝓜 𝓖) (𝓜 .mem) (𝓡 .run) (tablesOf 𝓤 H 𝓜 (tables 𝓤 H 𝓜 𝓡 code.env))
-    (cited 𝓤 H (Make 𝓤 H (𝓖 .A) (𝓜 .mem) (𝓡 .run)) 𝓜 𝓡 code.env #make make-def.routine code.calls-terminal·sessions·session-of (make-thm.met 𝓤 H 𝓜 𝓖 𝓡))
-    (cited 𝓤 H (Core 𝓤 H (𝓖 .A) (𝓜 .mem) (𝓡 .run)) 𝓜 𝓡 code.env #core core-def.routine code.calls-session·activate (core-thm.met 𝓤 H 𝓜 𝓖 𝓡))
-    (cited 𝓤 H (Give 𝓤 H (𝓖 .A) (𝓜 .mem) (𝓡 .run)) 𝓜 𝓡 code.env #give give-def.routine code.calls-terminal·sessions·give-client (give-thm.met 𝓤 H 𝓜 𝓖 𝓡)))
+    (cited 𝓤 H (Make 𝓤 H (𝓖 .A) (𝓜 .mem) (𝓡 .run)) 𝓜 𝓡 code.env #make make-def.routine code.calls-client·session-of (make-thm.met 𝓤 H 𝓜 𝓖 𝓡))
+    (cited 𝓤 H (Core 𝓤 H (𝓖 .A) (𝓜 .mem) (𝓡 .run)) 𝓜 𝓡 code.env #core core-def.routine code.calls-activation·activate (core-thm.met 𝓤 H 𝓜 𝓖 𝓡))
+    (cited 𝓤 H (Give 𝓤 H (𝓖 .A) (𝓜 .mem) (𝓡 .run)) 𝓜 𝓡 code.env #give give-def.routine code.calls-client·give-client (give-thm.met 𝓤 H 𝓜 𝓖 𝓡)))

@@ -1,7 +1,7 @@
 -- `terminal::sessions::lachsbrille_session_delete` meets its contract: the call's outcome for a value that is known. Assumes nothing.
 use mathlib.Core.Path.{sym, ap, _∙_}
 use borrow.Author.Tests.{not-true, not-false}
-use Rattle.terminal.specs.Sessions.{givenStep, outcome}
+use Rattle.client.specs.Sessions.{givenStep, outcome}
 use borrow.Author.Needs.{needs}
 use Rattle.terminal.proofs.sessions.lachsbrille_session_delete.Statement.{statement}
 use Rattle.terminal.proofs.sessions.lachsbrille_session_delete.Tie as tie

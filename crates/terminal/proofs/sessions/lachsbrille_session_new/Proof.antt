@@ -1,6 +1,6 @@
 -- `terminal::sessions::lachsbrille_session_new` meets its contract: a new value given out. Assumes nothing.
 use mathlib.Core.Path.{ap, _∙_}
-use Rattle.terminal.specs.Sessions.{given}
+use Rattle.client.specs.Sessions.{given}
 use borrow.Author.Needs.{needs}
 use Rattle.terminal.proofs.sessions.lachsbrille_session_new.Statement.{statement}
 use Rattle.terminal.proofs.sessions.lachsbrille_session_new.Tie as tie

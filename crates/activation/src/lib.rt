@@ -1,0 +1,149 @@
+// Activating: the pool that is offered is checked once all of it has arrived and, if it is accepted, kept; with nothing offered the
+// pool that is kept already becomes active.
+use checker::Verdict;
+use session::Answer;
+use session::Session;
+use session::Stage;
+use session::Step;
+use working_table::Record;
+ghost use mathlib.Core.Path.{_≡_};
+ghost use Prim.Native.Nat.{_≤_};
+ghost use lib.ListN.{length, take};
+ghost use Rattle.pool.specs.Walk.{Reaches, Listed};
+ghost use Rattle.checker.specs.Checking.{verdictOf, countOf};
+ghost use Rattle.session.specs.Answers.{reply, replyOf};
+ghost use Rattle.session.specs.Calls.{stepOf};
+ghost use Rattle.activation.specs.Activating.{keptActivated, settled, keptSettled, activateOf, keptAfter, activatedRecords};
+ghost use Rattle.activation.specs.Rows.{recordsFor, ListsFor};
+
+// Activates the pool that is kept already.
+fn activate_kept(s: Session, room: usize) -> Step
+    ensures { λ r. ⌜ stepOf r ≡ keptActivated s room ⌝ }
+{
+    if s.kept == 0 {
+        return session::refuse(s, Answer::NotOffered);
+    }
+    if room < s.kept {
+        return session::refuse(s, Answer::NoRoom);
+    }
+    let stage = s.stage;
+    Step {
+        session: Session {
+            stage,
+            announced: s.announced,
+            received: s.received,
+            kept: s.kept,
+            active: true,
+        },
+        answer: Answer::Done,
+    }
+}
+
+// The answer to a pool that reading refuses. A pool that was offered is neither empty nor too long.
+fn unread(verdict: Verdict) -> Answer
+    ensures { λ r. ⌜ (3 ≤ verdictOf verdict .number → replyOf r ≡ reply (verdictOf verdict .number) (verdictOf verdict .value)) ⌝ }
+{
+    match verdict {
+        Verdict::Checked { records, faults } => Answer::CannotArise,
+        Verdict::Empty => Answer::CannotArise,
+        Verdict::TooLong => Answer::CannotArise,
+        Verdict::NoMark(at) => Answer::NoMark(at),
+        Verdict::Cut(at) => Answer::Cut(at),
+        Verdict::LengthOver(at) => Answer::LengthOver(at),
+        Verdict::TooMany => Answer::TooMany,
+        Verdict::TableShort(needed) => Answer::TableShort(needed),
+    }
+}
+
+// What activating answers, and how many entries of the table are then filled from the rows.
+struct Activated {
+    step: Step,
+    records: usize,
+}
+
+fn filling(step: Step, records: usize) -> Activated
+    ensures { λ r. ⌜ (r .step ≡ step) × (r .records ≡ records) ⌝ }
+{
+    Activated { step, records }
+}
+
+// Checks the pool that has arrived whole, by rows that reach for every record, and keeps it if it is accepted.
+fn settle(s: Session, p: &[u8], kept: &mut [u8], room: usize, rows: &mut [u16]) -> Activated
+    requires { ⌜ (1 ≤ length (now p)) × (length (now p) ≤ 65535) × (length (now p) ≤ length (now kept)) × Reaches (now rows) (now p) ⌝ }
+    ensures { λ r. ⌜ (stepOf (r .step) ≡ settled s (now (p .entry)) room) × (now (kept .exit) ≡ keptSettled (now (p .entry)) room (now (kept .entry))) × (r .records ≡ countOf (now (p .entry)) room) × Listed (now (p .entry)) room (now (rows .entry)) (now (rows .exit)) ⌝ }
+{
+    let mut first = [0u16; 3];
+    let verdict = checker::check_by(p, room, rows, &mut first);
+    let records = checker::records_of(verdict);
+    let number = checker::number_of(verdict);
+    if number == 7 {
+        return filling(session::refuse(s, unread(verdict)), records);
+    }
+    if number != 0 {
+        return filling(
+            session::refuse(session::end_stage(s), unread(verdict)),
+            records,
+        );
+    }
+    if checker::value_of(verdict) != 0 {
+        let answer = Answer::Faulty {
+            record: first[0],
+            rule: first[1],
+            item: first[2],
+        };
+        return filling(session::refuse(session::end_stage(s), answer), records);
+    }
+    wire::copy(p, kept, 0);
+    let step = Step {
+        session: Session {
+            stage: Stage::Idle,
+            announced: 0,
+            received: 0,
+            kept: p.len(),
+            active: true,
+        },
+        answer: Answer::Done,
+    };
+    filling(step, records)
+}
+
+// Activates the pool that is offered, or else the one that is kept, for a table of so many entries. The rows then start with the
+// entries of the pool that is checked, where it is read; where none is checked, no entry is filled.
+fn activate_in(
+    s: Session,
+    staging: &[u8],
+    kept: &mut [u8],
+    room: usize,
+    rows: &mut [u16],
+) -> Activated
+    requires { ⌜ Reaches (now rows) (take (s .announced) (now staging)) ⌝ }
+    ensures { λ r. ⌜ (stepOf (r .step) ≡ activateOf s (now (staging .entry)) (length (now (kept .entry))) room) × (now (kept .exit) ≡ keptAfter s (now (staging .entry)) (now (kept .entry)) room) × (r .records ≡ recordsFor s (now (staging .entry)) (length (now (kept .entry))) room) × ListsFor s (now (staging .entry)) (length (now (kept .entry))) room (now (rows .entry)) (now (rows .exit)) ⌝ }
+{
+    if session::is_impossible(s) {
+        return filling(session::refuse(s, Answer::CannotArise), 0);
+    }
+    let stage = s.stage;
+    if !session::is_offered(stage) {
+        return filling(activate_kept(s, kept.len()), 0);
+    }
+    let announced = s.announced;
+    if s.received < announced {
+        return filling(session::refuse(s, Answer::Incomplete), 0);
+    }
+    if (staging.len() < announced) | (kept.len() < announced) {
+        return filling(session::refuse(s, Answer::NoRoom), 0);
+    }
+    settle(s, &staging[..announced], kept, room, rows)
+}
+
+// Activates the pool that is offered, or else the one that is kept. The table is filled where a pool is checked and read, from the
+// rows that the check lists its records in. A record has at least 12 bytes: the rows reach for every pool.
+pub fn activate(s: Session, staging: &[u8], kept: &mut [u8], table: &mut [Record]) -> Step
+    ensures { λ r. ⌜ (stepOf r ≡ activateOf s (now (staging .entry)) (length (now (kept .entry))) (length (now (table .entry)))) × (now (kept .exit) ≡ keptAfter s (now (staging .entry)) (now (kept .entry)) (length (now (table .entry)))) × (now (table .exit) ≡ activatedRecords s (now (staging .entry)) (length (now (kept .entry))) (now (table .entry))) ⌝ }
+{
+    let mut rows = [0u16; 21844];
+    let room = table.len();
+    let activated = activate_in(s, staging, kept, room, &mut rows);
+    working_table::gather(&rows, activated.records, table);
+    activated.step
+}

@@ -1,0 +1,2 @@
+-- What the contracts of `client` cite.
+pub mod Sessions
