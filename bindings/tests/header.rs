@@ -16,9 +16,9 @@ const STRUCTS: [(&str, &str, &str); 10] = [
     ("answers", "MessageFields", "MessageFields"),
     ("time_log", "Fields", "LogFields"),
     ("time_log", "Marks", "LogMarks"),
-    ("time_log", "Record", "LogRecord"),
-    ("time_log", "Written", "LogWritten"),
-    ("time_log", "Log", "LogOutcome"),
+    ("log_reading", "Record", "LogRecord"),
+    ("log_writing", "Written", "LogWritten"),
+    ("log_reading", "Log", "LogOutcome"),
 ];
 
 /// Parameters that have a short name in Rattle.

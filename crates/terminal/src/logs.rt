@@ -1,17 +1,17 @@
 // Log records for C: read and written, and whole logs read. A refusal is the number in what is given back.
+use log_reading::Log;
+use log_reading::Record;
+use log_writing::Written;
 use time_log::Fields;
-use time_log::Log;
 use time_log::Marks;
-use time_log::Record;
-use time_log::Written;
 ghost use mathlib.Core.Path.{_≡_};
 ghost use mathlib.Core.Bool.{cond};
 ghost use lib.Dec.{ltb};
 ghost use lib.ListN.{length};
 ghost use Rattle.time_log.specs.Layout.{marksSet, recordLength};
-ghost use Rattle.time_log.specs.Reading.{readOf, ordinalsAfter, valuesAfter};
-ghost use Rattle.time_log.specs.Logs.{logOf};
-ghost use Rattle.time_log.specs.Writing.{writeRefusal, writtenAs, bytesAfter};
+ghost use Rattle.log_reading.specs.Reading.{readOf, ordinalsAfter, valuesAfter};
+ghost use Rattle.log_reading.specs.Logs.{logOf};
+ghost use Rattle.log_writing.specs.Writing.{writeRefusal, writtenAs, bytesAfter};
 
 // The number of optional fields that a layout marks.
 #[no_mangle]
@@ -32,7 +32,7 @@ pub extern "C" fn lachsbrille_log_read_record(
 ) -> Record
     ensures { λ r. ⌜ (r ≡ readOf layout logged (now (bytes .entry)) (length (now (ordinals .entry))) (length (now (values .entry)))) × (now (ordinals .exit) ≡ ordinalsAfter layout logged (now (bytes .entry)) (now (ordinals .entry)) (now (values .entry))) × (now (values .exit) ≡ valuesAfter layout logged (now (bytes .entry)) (now (ordinals .entry)) (now (values .entry))) ⌝ }
 {
-    time_log::read_record(bytes, layout, logged, ordinals, values)
+    log_reading::read_record(bytes, layout, logged, ordinals, values)
 }
 
 // Writes a record of the first so many ordinals and values.
@@ -48,7 +48,7 @@ pub extern "C" fn lachsbrille_log_write_record(
 ) -> Written
     ensures { λ r. ⌜ (r ≡ writtenAs (writeRefusal layout fields logged (now (ordinals .entry)) (now (values .entry)) count (length (now (to .entry)))) (recordLength layout count)) × (now (to .exit) ≡ bytesAfter (now (to .entry)) layout fields logged (now (ordinals .entry)) (now (values .entry)) count) ⌝ }
 {
-    time_log::write_record(to, layout, fields, logged, ordinals, values, count)
+    log_writing::write_record(to, layout, fields, logged, ordinals, values, count)
 }
 
 // Reads the records of a log to its end.
@@ -56,5 +56,5 @@ pub extern "C" fn lachsbrille_log_write_record(
 pub extern "C" fn lachsbrille_log_read(bytes: &[u8], layout: u16, logged: usize) -> Log
     ensures { λ r. ⌜ r ≡ logOf layout logged (now (bytes .entry)) ⌝ }
 {
-    time_log::read_log(bytes, layout, logged)
+    log_reading::read_log(bytes, layout, logged)
 }

@@ -1,10 +1,10 @@
 -- An optional field as a number of its width. Assumes nothing.
-use mathlib.Core.Path.{_≡_, refl, ap, _∙_}
+use mathlib.Core.Path.{_≡_, ap, _∙_}
 use mathlib.Core.List.{List}
 use Prim.Native.Nat.{ℕ, _+_, _*_, _-_, _≤_, _<_}
 use native.Mathlib.Omega.{arith}
 use borrow.Author.Tests.{le-ltb}
-use lib.IntN.{pos, natAbs}
+use lib.IntN.{natAbs}
 use Rattle.wire.specs.Bytes.{leOf, numberAt, signedOf}
 use Rattle.wire.proofs.Complement.{low}
 use Rattle.time_log.specs.Layout.{partWidth, placeOf}
@@ -26,7 +26,3 @@ size-low x h = rw (low x h)
 pub size-high : (x : ℕ) → 2147483648 ≤ x → x < 4294967296 → 4294967295 - x + 1 ≡ natAbs (signedOf 4 x)
 unfolding signedOf
 size-high x h f = rw (le-ltb (2 * x) 4294967296 (omega arith)) (omega arith)
-
-pub zero-signed : pos 0 ≡ signedOf 4 0
-unfolding signedOf
-zero-signed = refl

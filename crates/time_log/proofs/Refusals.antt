@@ -8,10 +8,9 @@ use lib.IntN.{natAbs}
 use lib.ListN.{length}
 use Rattle.wire.specs.Bytes.{numberAt}
 use Rattle.time_log.specs.Layout.{placeOf}
-use Rattle.time_log.specs.Contents.{partAt, signedAt, fieldsAt, ordinalsAt}
+use Rattle.time_log.specs.Contents.{partAt, signedAt, fieldsAt, extentOf, ordinalsAt}
 use Rattle.time_log.specs.Judging.{anyOver, fieldsRefusal, recordRefusal}
 use Rattle.time_log.specs.Within.{refusalBy}
-use Rattle.time_log.specs.Logs.{extentOf}
 use Rattle.time_log.specs.declared.Fields.{Fields}
 
 pub not-a-layout : (layout logged : ℕ) (s : List ℕ) → 511 < layout → 47 ≡ recordRefusal layout logged s

@@ -4,7 +4,7 @@ use mathlib.Core.List.{List, [], _∷_}
 use lib.IntN.{ℤ}
 use lib.ListN.{getD}
 use Rattle.wire.specs.Bytes.{numberAt, signedOf}
-use Rattle.time_log.specs.Layout.{partWidth, placeOf}
+use Rattle.time_log.specs.Layout.{partWidth, placeOf, recordLength}
 use Rattle.time_log.specs.declared.Fields.{Fields}
 
 -- optional field k as a number, and as a signed one; an absent field is no byte, and so 0
@@ -32,6 +32,10 @@ fieldsAt layout s =
 
 abbrev pub countAt : ℕ → List ℕ → ℕ
 countAt layout s = getD s (placeOf layout 9) 0
+
+-- where the record that the bytes start with ends
+abbrev pub extentOf : ℕ → List ℕ → ℕ
+extentOf layout s = recordLength layout (countAt layout s)
 
 -- n bytes from a place on, each so many behind the last
 unfoldable pub spaced : ℕ → ℕ → List ℕ → ℕ → List ℕ

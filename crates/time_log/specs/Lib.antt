@@ -3,8 +3,3 @@ pub mod Layout
 pub mod Contents
 pub mod Judging
 pub mod Within
-pub mod Reading
-pub mod Logs
-pub mod Joined
-pub mod Writing
-pub mod Back

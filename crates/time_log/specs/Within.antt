@@ -1,4 +1,4 @@
--- What functions that only this crate calls ensure. Definitions only.
+-- What functions ensure that only the crates for log records call. Definitions only.
 use Prim.Native.Nat.{ℕ}
 use mathlib.Core.Path.{_≡_}
 use mathlib.Core.Bool.{Bool, not, cond}

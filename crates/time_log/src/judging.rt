@@ -1,11 +1,11 @@
 // Why a record is refused.
 use super::Fields;
 use super::Places;
-use super::reading;
+use super::contents;
 ghost use mathlib.Core.Path.{_≡_};
-ghost use Prim.Native.Nat.{ℕ, _+_, _*_, _≤_, _<_};
+ghost use Prim.Native.Nat.{_+_, _*_, _≤_};
 ghost use lib.IntN.{natAbs};
-ghost use lib.ListN.{length, getD};
+ghost use lib.ListN.{length};
 ghost use Rattle.wire.specs.Bytes.{signedOf};
 ghost use Rattle.time_log.specs.Contents.{spaced};
 ghost use Rattle.time_log.specs.Judging.{knownStatus, anyOver, fieldsRefusal, recordRefusal};
@@ -65,24 +65,6 @@ pub fn any_over(s: &[u8], at: usize, n: usize, logged: usize) -> bool
     last_over(s, p, left, limit)
 }
 
-// Whether one of the first n ordinals is not below the count of log values.
-pub fn any_of_list_over(s: &[u8], n: usize, logged: usize) -> bool
-    requires { ⌜ (n ≤ length (now s)) × ((i : ℕ) → getD (now s) i 0 < 256) ⌝ }
-    ensures { λ r. ⌜ r ≡ anyOver logged (spaced 1 n (now (s .entry)) 0) ⌝ }
-{
-    if 255 < logged {
-        return false;
-    }
-    let limit = logged as u8;
-    let mut over = false;
-    let mut i = 0usize;
-    while i < n {
-        over = over | (limit <= s[i]);
-        i += 1;
-    }
-    over
-}
-
 fn fields_refusal(time: u32, north: u32, east: u32, status: u8, over: bool) -> u32
     ensures { λ r. ⌜ r ≡ refusalBy time north east status over ⌝ }
 {
@@ -126,9 +108,9 @@ pub fn refusal(bytes: &[u8], layout: u16, places: Places, logged: usize) -> u32
         return 40;
     }
     let time = wire::number(bytes, 0, 4) as u32;
-    let north = size_of(reading::part(bytes, layout, 0, 6, 4));
-    let east = size_of(reading::part(bytes, layout, 1, places.east, 4));
-    let status = reading::part(bytes, layout, 3, places.status, 1) as u8;
+    let north = size_of(contents::part(bytes, layout, 0, 6, 4));
+    let east = size_of(contents::part(bytes, layout, 1, places.east, 4));
+    let status = contents::part(bytes, layout, 3, places.status, 1) as u8;
     let over = any_over(bytes, count + 1, n, logged);
     fields_refusal(time, north, east, status, over)
 }

@@ -1,21 +1,17 @@
-// Log records: time and position, the fields that a layout marks, and log values by their ordinals.
+// Log records: time and position, the fields that a layout marks, and log values by their ordinals; where these stand, and what is
+// judged of them.
+mod contents;
 mod judging;
-mod reading;
-mod writing;
 
+pub use contents::fields_of;
+pub use contents::places_of;
+pub use judging::any_over;
+pub use judging::judged;
+pub use judging::refusal;
 ghost use mathlib.Core.Path.{_≡_};
 ghost use mathlib.Core.Bool.{cond};
-ghost use Prim.Native.Nat.{_+_, _*_, _≤_};
 ghost use lib.Dec.{ltb};
-ghost use lib.ListN.{length};
-ghost use lib.Seq.{sets};
-ghost use Rattle.time_log.specs.Layout.{marksSet, recordLength};
-ghost use Rattle.time_log.specs.Contents.{spaced, signedFrom};
-ghost use Rattle.time_log.specs.Reading.{refusedBy, readOf, ordinalsAfter, valuesAfter};
-ghost use Rattle.time_log.specs.Logs.{logOf};
-ghost use Rattle.time_log.specs.Joined.{LogsAreRecords};
-ghost use Rattle.time_log.specs.Writing.{writeRefusal, writtenAs, bytesAfter};
-ghost use Rattle.time_log.specs.Back.{ReadsBack};
+ghost use Rattle.time_log.specs.Layout.{marksSet};
 
 // A record's fields. One that the layout does not mark is 0.
 #[repr(C)]
@@ -56,220 +52,14 @@ pub fn optional_fields(layout: u16) -> Marks
 }
 
 // Where the optional fields stand, each behind those before it, and the count byte behind them all. North is always at 6.
-struct Places {
-    east: usize,
-    up: usize,
-    status: usize,
-    pdop: usize,
-    hdop: usize,
-    satellites: usize,
-    gps_time: usize,
-    gps_date: usize,
-    count: usize,
-}
-
-// What reading a record gives: number 0 with its length, its count of values and its fields, or a refusal with zeros.
-#[repr(C)]
-pub struct Record {
-    pub number: u32,
-    pub length: usize,
+pub struct Places {
+    pub east: usize,
+    pub up: usize,
+    pub status: usize,
+    pub pdop: usize,
+    pub hdop: usize,
+    pub satellites: usize,
+    pub gps_time: usize,
+    pub gps_date: usize,
     pub count: usize,
-    pub fields: Fields,
 }
-
-fn refused(number: u32) -> Record
-    ensures { λ r. ⌜ r ≡ refusedBy number ⌝ }
-{
-    let fields = Fields {
-        time: 0,
-        days: 0,
-        north: 0,
-        east: 0,
-        up: 0,
-        status: 0,
-        pdop: 0,
-        hdop: 0,
-        satellites: 0,
-        gps_time: 0,
-        gps_date: 0,
-    };
-    Record {
-        number,
-        length: 0,
-        count: 0,
-        fields,
-    }
-}
-
-fn fill_ordinals(bytes: &[u8], at: usize, ordinals: &mut [u8], n: usize)
-    requires { ⌜ (n ≤ length (now ordinals)) × (at + 5 * n ≤ length (now bytes)) ⌝ }
-    ensures { λ _. ⌜ now (ordinals .exit) ≡ sets (now (ordinals .entry)) 0 (spaced 5 n (now (bytes .entry)) at) ⌝ }
-{
-    let mut p = at;
-    let mut i = 0usize;
-    while i < n {
-        ordinals[i] = bytes[p];
-        p += 5;
-        i += 1;
-    }
-}
-
-fn fill_values(bytes: &[u8], at: usize, values: &mut [i32], n: usize)
-    requires { ⌜ (n ≤ length (now values)) × (n ≤ 255) × (at + 5 * n ≤ length (now bytes) + 1) ⌝ }
-    ensures { λ _. ⌜ now (values .exit) ≡ sets (now (values .entry)) 0 (signedFrom n (now (bytes .entry)) at) ⌝ }
-{
-    let mut p = at;
-    let mut i = 0usize;
-    while i < n {
-        values[i] = wire::signed(wire::number(bytes, p, 4) as u32);
-        p += 5;
-        i += 1;
-    }
-}
-
-// Reads the record that the bytes start with; those behind it do not matter.
-pub fn read_record(
-    bytes: &[u8],
-    layout: u16,
-    logged: usize,
-    ordinals: &mut [u8],
-    values: &mut [i32],
-) -> Record
-    ensures { λ r. ⌜ (r ≡ readOf layout logged (now (bytes .entry)) (length (now (ordinals .entry))) (length (now (values .entry)))) × (now (ordinals .exit) ≡ ordinalsAfter layout logged (now (bytes .entry)) (now (ordinals .entry)) (now (values .entry))) × (now (values .exit) ≡ valuesAfter layout logged (now (bytes .entry)) (now (ordinals .entry)) (now (values .entry))) ⌝ }
-{
-    if 511 < layout {
-        return refused(47);
-    }
-    let places = reading::places_of(layout);
-    let at = places.count;
-    if bytes.len() <= at {
-        return refused(40);
-    }
-    let n = bytes[at] as usize;
-    let length = at + 1 + 5 * n;
-    if bytes.len() < length {
-        return refused(40);
-    }
-    let fields = reading::fields_of(bytes, layout, places);
-    let over = judging::any_over(bytes, at + 1, n, logged);
-    let number = judging::judged(fields, over);
-    if number != 0 {
-        return refused(number);
-    }
-    if (ordinals.len() < n) | (values.len() < n) {
-        return refused(46);
-    }
-    fill_ordinals(bytes, at + 1, ordinals, n);
-    fill_values(bytes, at + 2, values, n);
-    Record {
-        number: 0,
-        length,
-        count: n,
-        fields,
-    }
-}
-
-// What reading a log gives: number 0 and the count of its records, or a refusal and its record's start.
-#[repr(C)]
-pub struct Log {
-    pub number: u32,
-    pub count: usize,
-    pub start: usize,
-}
-
-// Reads the records to the end of the bytes.
-pub fn read_log(bytes: &[u8], layout: u16, logged: usize) -> Log
-    ensures { λ r. ⌜ r ≡ logOf layout logged (now (bytes .entry)) ⌝ }
-{
-    if 511 < layout {
-        return Log {
-            number: 47,
-            count: 0,
-            start: 0,
-        };
-    }
-    let places = reading::places_of(layout);
-    let count = places.count;
-    let mut at = 0usize;
-    let mut n = 0usize;
-    while at < bytes.len() {
-        let rest = &bytes[at..];
-        let number = judging::refusal(rest, layout, places, logged);
-        if number != 0 {
-            return Log {
-                number,
-                count: 0,
-                start: at,
-            };
-        }
-        at += count + 1 + 5 * rest[count] as usize;
-        n += 1;
-    }
-    Log {
-        number: 0,
-        count: n,
-        start: 0,
-    }
-}
-
-// A log is read exactly where it is records joined. The function does nothing: its contract is the claim, so that the report names it.
-pub fn logs_are_records()
-    ensures { λ _. ⌜ LogsAreRecords ⌝ }
-{}
-
-// What writing a record gives: number 0 and its length, or a refusal and 0.
-#[repr(C)]
-pub struct Written {
-    pub number: u32,
-    pub length: usize,
-}
-
-// Writes a record of the first so many ordinals and values from the start of the bytes on.
-pub fn write_record(
-    to: &mut [u8],
-    layout: u16,
-    fields: Fields,
-    logged: usize,
-    ordinals: &[u8],
-    values: &[i32],
-    count: usize,
-) -> Written
-    ensures { λ r. ⌜ (r ≡ writtenAs (writeRefusal layout fields logged (now (ordinals .entry)) (now (values .entry)) count (length (now (to .entry)))) (recordLength layout count)) × (now (to .exit) ≡ bytesAfter (now (to .entry)) layout fields logged (now (ordinals .entry)) (now (values .entry)) count) ⌝ }
-{
-    if 511 < layout {
-        return Written {
-            number: 47,
-            length: 0,
-        };
-    }
-    if (255 < count) | ((ordinals.len() < count) | (values.len() < count)) {
-        return Written {
-            number: 48,
-            length: 0,
-        };
-    }
-    let written = writing::kept(layout, fields);
-    let over = judging::any_of_list_over(ordinals, count, logged);
-    let number = judging::judged(written, over);
-    if number != 0 {
-        return Written { number, length: 0 };
-    }
-    let places = reading::places_of(layout);
-    let at = places.count;
-    let length = at + 1 + 5 * count;
-    if to.len() < length {
-        return Written {
-            number: 46,
-            length: 0,
-        };
-    }
-    writing::put_fields(to, layout, places, written);
-    to[at] = count as u8;
-    writing::put_pairs(to, at + 1, ordinals, values, count);
-    Written { number: 0, length }
-}
-
-// What is written reads back the same. The function does nothing: its contract is the claim, so that the report names it.
-pub fn records_read_back()
-    ensures { λ _. ⌜ ReadsBack ⌝ }
-{}

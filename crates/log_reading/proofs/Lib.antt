@@ -1,0 +1,6 @@
+-- What belongs to no one function.
+pub mod Runs
+pub mod Answers
+pub mod Prefix
+pub mod Walks
+pub mod Divided

@@ -1,0 +1,34 @@
+-- A log is records joined back to back, and nothing here speaks of a walk. Definitions only.
+use Prim.Native.Nat.{ℕ, _≤_}
+use mathlib.Core.Path.{_≡_}
+use mathlib.Core.Logic.{_↔_}
+use mathlib.Core.List.{List, [], _∷_, _++_}
+use lib.ListN.{length}
+use Rattle.time_log.specs.Layout.{recordLength}
+use Rattle.time_log.specs.Contents.{countAt}
+use Rattle.time_log.specs.Judging.{recordRefusal}
+use Rattle.log_reading.specs.Logs.{wholeLog, logOf}
+
+-- bytes that are one record, and nothing more
+pub record OneRecord (layout logged : ℕ) (r : List ℕ) : Type 0 where
+  pub long : length r ≡ recordLength layout (countAt layout r)
+  pub right : recordRefusal layout logged r ≡ 0
+
+abbrev pub AllRecords : ℕ → ℕ → List (List ℕ) → Type 0
+AllRecords layout logged [] = Unit {0}
+AllRecords layout logged (r ∷ rs) = OneRecord layout logged r × AllRecords layout logged rs
+
+abbrev pub joined : List (List ℕ) → List ℕ
+joined [] = []
+joined (r ∷ rs) = r ++ joined rs
+
+-- bytes that are n records
+pub record Records (layout logged n : ℕ) (s : List ℕ) : Type 0 where
+  pub parts : List (List ℕ)
+  pub records : AllRecords layout logged parts
+  pub same : s ≡ joined parts
+  pub count : length parts ≡ n
+
+-- a log is read as n records exactly where it is n records
+abbrev pub LogsAreRecords : Type 0
+LogsAreRecords = (layout logged n : ℕ) (s : List ℕ) → layout ≤ 511 → (logOf layout logged s ≡ wholeLog n) ↔ Records layout logged n s

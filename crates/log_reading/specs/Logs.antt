@@ -1,0 +1,28 @@
+-- Reading a log: records to the end of its bytes. Definitions only.
+use Prim.Native.Nat.{ℕ, zero, suc, _+_}
+use mathlib.Core.Bool.{cond}
+use mathlib.Core.List.{List}
+use lib.Dec.{eqb, ltb}
+use lib.ListN.{length, drop}
+use Rattle.time_log.specs.Contents.{extentOf}
+use Rattle.time_log.specs.Judging.{recordRefusal}
+use Rattle.log_reading.specs.declared.Log.{Log}
+
+-- a whole log gives its count; a refusal gives the start of its record
+abbrev pub wholeLog : ℕ → Log
+wholeLog n = record { number = 0; count = n; start = 0 }
+
+abbrev pub badLog : ℕ → ℕ → Log
+badLog x at = record { number = x; count = 0; start = at }
+
+-- the bytes left at a place, where n records are passed; every record takes bytes, so that their number is turns enough
+unfoldable pub walk : ℕ → ℕ → ℕ → ℕ → ℕ → List ℕ → Log
+walk layout logged zero at n s = wholeLog n
+walk layout logged (suc turns) at n s =
+    cond (eqb (length s) 0) (wholeLog n)
+    (cond (eqb (recordRefusal layout logged s) 0) (walk layout logged turns (at + extentOf layout s) (n + 1) (drop (extentOf layout s) s))
+    (badLog (recordRefusal layout logged s) at))
+
+-- a bad layout is refused even where there is no record
+unfoldable pub logOf : ℕ → ℕ → List ℕ → Log
+logOf layout logged s = cond (ltb 511 layout) (badLog 47 0) (walk layout logged (length s) 0 0 s)

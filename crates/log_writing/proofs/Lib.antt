@@ -1,0 +1,5 @@
+-- What belongs to no one function.
+pub mod Ordinals
+pub mod Laying
+pub mod Outcomes
+pub mod Backward
