@@ -5,9 +5,6 @@ use libc::STDERR_FILENO;
 use libc::STDIN_FILENO;
 use libc::STDOUT_FILENO;
 use working_table::Record;
-
-mod text;
-
 ghost use Prim.Native.Nat.{_+_, _*_, _≤_, _<_};
 ghost use mathlib.Core.Path.{_≡_};
 ghost use lib.ListN.{length, replicate};
@@ -84,7 +81,7 @@ fn list_records(table: &[u16], count: usize, out: &mut [u8], from: usize) -> usi
             return at;
         }
         at = make_room(out, at);
-        at = text::put_record(out, at, table[i], table[i + 1], table[i + 2], table[i + 3]);
+        at = listing::put_record(out, at, table[i], table[i + 1], table[i + 2], table[i + 3]);
         i += 4;
         left -= 1;
     }
@@ -103,7 +100,7 @@ fn list_faults(faults: &[u16], count: usize, out: &mut [u8], from: usize) -> usi
             return at;
         }
         at = make_room(out, at);
-        at = text::put_fault(out, at, faults[i], faults[i + 1], faults[i + 2]);
+        at = listing::put_fault(out, at, faults[i], faults[i + 1], faults[i + 2]);
         i += 3;
         left -= 1;
     }
@@ -116,7 +113,7 @@ fn list_findings(faults: &[u16], count: usize, out: &mut [u8], from: usize) -> u
 {
     if count == 0 {
         let at = make_room(out, from);
-        return text::put_accepted(out, at);
+        return listing::put_accepted(out, at);
     }
     list_faults(faults, count, out, from)
 }
@@ -145,13 +142,13 @@ fn list(p: &[u8], table: &mut [u16], faults: &mut [u16], out: &mut [u8]) {
         records,
         faults: found,
     } = verdict {
-        let first = text::put_records(out, 0, records as u64);
+        let first = listing::put_records(out, 0, records as u64);
         let next = list_records(table, records, out, first);
         let end = list_findings(faults, found, out, next);
         flush(out, end);
         return;
     }
-    let end = text::put_refused(
+    let end = listing::put_refused(
         out,
         0,
         checker::number_of(verdict) as u64,

@@ -1,4 +1,4 @@
-// Text put into a buffer at a place; the place behind it is given. What does not fit is left out: callers flush in time.
+// The lines of a listing, put into a buffer at a place; the place behind is given. What does not fit is left out: callers flush in time.
 ghost use Prim.Native.Nat.{_≤_};
 ghost use mathlib.Core.Path.{_≡_};
 ghost use lib.ListN.{length};

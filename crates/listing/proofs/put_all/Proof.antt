@@ -1,11 +1,11 @@
--- `lister::text::put_all` meets its contract. Assumes nothing.
+-- `listing::put_all` meets its contract. Assumes nothing.
 use mathlib.Core.Path.{_≡_, refl, _∙_}
 use Prim.Native.Nat.{_-_, _≤_}
 use native.Mathlib.Omega.{arith}
 use borrow.Author.Needs.{needs}
 use lib.ListN.{length}
-use Rattle.lister.proofs.text.put_all.Statement.{statement}
-use Rattle.lister.proofs.text.put_all.Tie as tie
+use Rattle.listing.proofs.put_all.Statement.{statement}
+use Rattle.listing.proofs.put_all.Tie as tie
 
 abbrev Inv-loop : tie.InvT-loop
 Inv-loop out₀ at s to₀ i₀ out to i = (i ≤ length s) × (length out ≡ length out₀)
