@@ -1,6 +1,3 @@
 -- What belongs to no one function.
-pub mod Seen
-pub mod Walking
 pub mod Tabled
-pub mod ByKind
 pub mod Clearing

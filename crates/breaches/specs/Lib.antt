@@ -1,3 +1,2 @@
--- What the contracts of `breaches` cite: what its functions read off the lists that they are lent, and rows without a breach.
+-- What the contracts of `breaches` cite: what its functions read off the lists that they are lent.
 pub mod Lists
-pub mod Clean

@@ -1,7 +1,4 @@
 // Whether a record has no fault. Most have none: then one look is enough, whose tests are joined without a branch between them.
-use super::element;
-use super::fields;
-use super::record;
 use records::DeviceElement;
 ghost use mathlib.Core.Path.{_≡_};
 ghost use mathlib.Core.Bool.{true};
@@ -9,12 +6,13 @@ ghost use mathlib.Core.List.{_++_};
 ghost use Prim.Native.Nat.{ℕ, _+_, _≤_, _<_};
 ghost use lib.ListN.{length, getD};
 ghost use Rattle.records.specs.Fields.{elementOf, processDataOf, propertyOf, presentationOf};
+ghost use Rattle.faults.specs.Rows.{AllClear};
 ghost use Rattle.naming.specs.Records.{startAt, idAt};
 ghost use Rattle.naming.specs.Naming.{tagOf};
-ghost use Rattle.naming.specs.Lists.{shown, kindIn, Indexed};
+ghost use Rattle.naming.specs.Lists.{shown, kindIn, namedIn, Indexed};
 ghost use Rattle.rules.specs.Table.{isParent, entryNamed, fieldRows, elementRows, presentedRows, dataRows, propertyRows, valueRows, recordRows};
-ghost use Rattle.breaches.specs.Lists.{namedIn, Prepared};
-ghost use Rattle.breaches.specs.Clean.{AllClear, Apart};
+ghost use Rattle.fields.specs.Clean.{Apart};
+ghost use Rattle.breaches.specs.Lists.{Prepared};
 
 // Rules 6 and 7 of a presentation's ID.
 fn is_presented(table: &[u16], count: usize, index: &[u16], id: u16) -> bool
@@ -70,7 +68,7 @@ fn is_clean_list(
     let mut m: usize = 0;
     while m < size {
         let named = naming::named_at(index, records::view::entry(p, at, m as u16));
-        let tag = element::tag_at(p, table, named);
+        let tag = elements::tag_at(p, table, named);
         let place = tag % 1024;
         if (tag == 0) | (seen[place] == number) {
             return false;
@@ -94,13 +92,13 @@ fn is_clean_alone(
     requires { ⌜ i < 8192 ⌝ }
     ensures { λ r. ⌜ (r ≡ true → AllClear (fieldRows (now (p .entry)) e) × (isParent (kindIn (now (table .entry)) (namedIn (now (index .entry)) (e .parent))) ≡ true) × (getD (now (numbers .entry)) (e .number) 0 ≡ i + 1) × (getD (now (ups .entry)) (i + 1) 0 ≡ 0)) ⌝ }
 {
-    if record::number_at(ups, i + 1) != 0 {
+    if naming::number_at(ups, i + 1) != 0 {
         return false;
     }
-    if record::number_at(numbers, e.number as usize) as usize != i + 1 {
+    if naming::number_at(numbers, e.number as usize) as usize != i + 1 {
         return false;
     }
-    if !element::is_parent(naming::kind_at(table, naming::named_at(index, e.parent))) {
+    if !elements::is_parent(naming::kind_at(table, naming::named_at(index, e.parent))) {
         return false;
     }
     ((1 <= e.element_type) & (e.element_type <= 7))
@@ -153,7 +151,7 @@ pub(crate) fn is_clean(
     if fields::is_bad_id(kind, id) {
         return false;
     }
-    if record::number_at(index, id as usize) as usize != i + 1 {
+    if naming::number_at(index, id as usize) as usize != i + 1 {
         return false;
     }
     if kind == 3 {

@@ -1,12 +1,10 @@
 // The faults of one record, by its kind.
 use super::clean;
-use super::element;
-use super::fields;
 ghost use mathlib.Core.Path.{_≡_};
 ghost use mathlib.Core.Bool.{true};
 ghost use mathlib.Core.List.{[], _∷_};
 ghost use Prim.Native.Nat.{ℕ, suc, _+_, _*_, _≤_, _<_, _^_};
-ghost use lib.ListN.{length, getD};
+ghost use lib.ListN.{length};
 ghost use Rattle.records.specs.Fields.{elementOf, processDataOf, propertyOf};
 ghost use Rattle.faults.specs.Emission.{Puts};
 ghost use Rattle.pool.specs.Reading.{width};
@@ -16,16 +14,6 @@ ghost use Rattle.naming.specs.Lists.{shown, Indexed, Roomy};
 ghost use Rattle.rules.specs.Table.{presentedRows, elementRows, dataRows, propertyRows, recordRows};
 ghost use mathlib.Core.List.{_++_};
 ghost use Rattle.breaches.specs.Lists.{Prepared, Lent};
-
-// A number of a list, 0 behind its end.
-pub fn number_at(list: &[u16], i: usize) -> u16
-    ensures { λ r. ⌜ r ≡ getD (now (list .entry)) i 0 ⌝ }
-{
-    if i < list.len() {
-        return list[i];
-    }
-    0
-}
 
 // Rules 6 and 7 of process data and of a property.
 fn put_presented(
@@ -106,10 +94,10 @@ fn put_element(
     let e = records::view::device_element(p, at);
     let size = e.entries as usize;
     let parent = naming::named_at(index, e.parent);
-    let again = number_at(numbers, e.number as usize) != number;
-    let endless = number_at(ups, i + 1) != 0;
+    let again = naming::number_at(numbers, e.number as usize) != number;
+    let endless = naming::number_at(ups, i + 1) != 0;
     let n4 = fields::put_fields(p, e, number, faults, n);
-    element::put_references(
+    elements::put_references(
         p,
         table,
         index,
@@ -149,7 +137,7 @@ fn put_faults(
     let kind = table[i * 4 + 2];
     let id = table[i * 4 + 3];
     let number = (i + 1) as u16;
-    let again = number_at(index, id as usize) != number;
+    let again = naming::number_at(index, id as usize) != number;
     let own = fields::put_own(fields::is_bad_id(kind, id), again, number, faults, n);
     if kind == 1 {
         return fields::put_device(

@@ -17,7 +17,7 @@ use Rattle.naming.specs.Naming.{firstOf, typeKey}
 use Rattle.naming.specs.Lists.{shown}
 use Rattle.naming.proofs.First.{Without, to-first, to-none}
 use Rattle.naming.proofs.Shown.{shown-long}
-use Rattle.breaches.proofs.Tabled.{starts, kinds}
+use Rattle.naming.proofs.Tabled.{starts, kinds}
 
 pub none-yet : (key : ℕ → ℕ) (x : ℕ) → Without key x 0
 none-yet key x j h e = absurd (omega arith)

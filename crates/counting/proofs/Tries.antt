@@ -2,12 +2,10 @@
 use mathlib.Core.Path.{_≡_, subst}
 use mathlib.Core.List.{List}
 use Prim.Native.Nat.{ℕ}
-use native.Mathlib.Omega.{arith}
 use Rattle.pool.specs.Reading.{Entry}
-use Rattle.leading.specs.Leading.{Led}
-use Rattle.counting.specs.Trying.{Completes, Told, LedIf}
-use Rattle.counting.specs.declared.Tried.{Tried}
-use Rattle.counting.specs.declared.Tried.the-variants.{Counted, Short}
+use Rattle.leading.specs.declared.Tried.{Tried}
+use Rattle.leading.specs.declared.Tried.the-variants.{Counted, Short}
+use Rattle.counting.specs.Trying.{Completes, Told}
 
 module _ (p : List ℕ) (es : List Entry) (before : List ℕ) (start : ℕ) (after : List ℕ) (t : Tried) (said : Told p es before start after t) where
   pub told-counted : (n : ℕ) → t ≡ Counted n → Completes p es before start after n
@@ -19,9 +17,3 @@ module _ (p : List ℕ) (es : List Entry) (before : List ℕ) (start : ℕ) (aft
 -- what was left as it was
 pub carried : (p : List ℕ) (es : List Entry) {b b₀ : List ℕ} (after : List ℕ) (start n : ℕ) → b ≡ b₀ → Completes p es b start after n → Completes p es b₀ start after n
 carried p es {b} {b₀} after start n e h = subst (λ (x : List ℕ). Completes p es x start after n) e h
-
-pub led-counted : (p : List ℕ) (es : List Entry) (n : ℕ) (t : Tried) → LedIf p es n t → (k : ℕ) → t ≡ Counted k → Led p es n k
-led-counted p es n t said k e = subst (LedIf p es n) e said
-
-pub led-none : (p : List ℕ) (es : List Entry) (n : ℕ) → Led p es n 0
-led-none p es n = record { within = omega arith; clear = λ j l. absurd (omega (arith, l)) }

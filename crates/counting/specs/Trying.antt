@@ -5,9 +5,8 @@ use Prim.Native.Nat.{ℕ}
 use Rattle.pool.specs.Reading.{Entry}
 use Rattle.faults.specs.Emission.{Emits, Puts}
 use Rattle.rules.specs.Table.{poolRows, breachesIn}
-use Rattle.leading.specs.Leading.{Led}
-use Rattle.counting.specs.declared.Tried.{Tried}
-use Rattle.counting.specs.declared.Tried.the-variants.{Counted, Short}
+use Rattle.leading.specs.declared.Tried.{Tried}
+use Rattle.leading.specs.declared.Tried.the-variants.{Counted, Short}
 
 -- where the faults of the whole pool were put before, all faults are put now
 abbrev pub Completes : List ℕ → List Entry → List ℕ → ℕ → List ℕ → ℕ → Type 0
@@ -17,8 +16,3 @@ Completes p es before n after m = (b : List ℕ) → Puts 0 (poolRows p es) b 0 
 abbrev pub Told : List ℕ → List Entry → List ℕ → ℕ → List ℕ → Tried → Type 0
 Told p es before n after (Counted m) = Completes p es before n after m
 Told p es before n after Short = after ≡ before
-
--- the same of how many records have no fault
-abbrev pub LedIf : List ℕ → List Entry → ℕ → Tried → Type 0
-LedIf p es n (Counted k) = Led p es n k
-LedIf p es n Short = Unit {0}

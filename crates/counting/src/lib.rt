@@ -1,7 +1,6 @@
 // Counting the faults of a pool that has been listed, with lists that are as short as the pool allows: clearing long ones would take
 // most of the time.
-mod sound;
-
+use leading::Tried;
 ghost use mathlib.Core.Path.{_≡_};
 ghost use mathlib.Core.Bool.{true, cond};
 ghost use Prim.Native.Nat.{_*_, _≤_, _<_};
@@ -17,12 +16,6 @@ ghost use Rattle.rules.specs.Table.{poolRows, breachesIn};
 ghost use Rattle.breaches.specs.Lists.{Prepared, Lent};
 ghost use Rattle.leading.specs.Leading.{Led};
 ghost use Rattle.counting.specs.Trying.{Completes, Told};
-
-// A try with lists of some length: what was counted, or that the lists are too short for this pool.
-enum Tried {
-    Counted(usize),
-    Short,
-}
 
 // The number of the first device, 0 for none.
 fn first_device(table: &[u16], count: usize) -> u16
@@ -332,7 +325,7 @@ fn count_rest(
     requires { ⌜ (count * width ≤ length (now table)) × (count ≤ 8192) × (device ≡ firstOf (kindAt (shown (now table) count)) 1 count) × Led (now p) (shown (now table) count) count clear × (start ≤ 2) × Roomy (now p) (shown (now table) count) 32768 ⌝ }
     ensures { λ r. ⌜ Completes (now (p .entry)) (shown (now (table .entry)) count) (now (faults .entry)) start (now (faults .exit)) r ⌝ }
 {
-    let from = sound::widened(p, table, count, device, clear, start);
+    let from = leading::sound::widened(p, table, count, device, clear, start);
     if from == count {
         return start;
     }
@@ -358,7 +351,7 @@ pub fn count_faults(p: &[u8], table: &[u16], count: usize, faults: &mut [u16]) -
     if 0 < start {
         return count_rest(p, table, count, device, 0, faults, start);
     }
-    let from = sound::leading(p, table, count, device);
+    let from = leading::sound::leading(p, table, count, device);
     if from == count {
         return start;
     }

@@ -16,7 +16,7 @@ use Rattle.naming.specs.Naming.{firstOf}
 use Rattle.naming.specs.Lists.{shown}
 use Rattle.naming.proofs.First.{first-some, first-le, first-ext}
 use Rattle.naming.proofs.Shown.{shown-long}
-use Rattle.breaches.proofs.Tabled.{starts, kinds, ids}
+use Rattle.naming.proofs.Tabled.{starts, kinds, ids}
 use Rattle.checker.specs.Checking.{recordsIn, checkOf}
 use Rattle.checker.specs.declared.Verdict.{Verdict}
 use Rattle.checker.proofs.Checked.{may-count, rows-show}

@@ -65,6 +65,14 @@ AllAlike [] (v ∷ vs) = ⊥
 AllAlike (w ∷ ws) [] = ⊥
 AllAlike (w ∷ ws) (v ∷ vs) = Alike w v × AllAlike ws vs
 
+-- rows without a breach
+abbrev pub Clear : Row → Type 0
+Clear w = (m : ℕ) → m < w .size → w .breach m ≡ false
+
+abbrev pub AllClear : List Row → Type 0
+AllClear [] = Unit {0}
+AllClear (w ∷ ws) = Clear w × AllClear ws
+
 -- a fault by its row
 pub record Found (rows : ℕ → List Row) (n : ℕ) (f : Fault) : Type 0 where
   pub row : Row

@@ -8,13 +8,12 @@ use Rattle.records.specs.Fields.{elementOf, entryOf}
 use Rattle.pool.specs.Reading.{Entry}
 use Rattle.naming.specs.Records.{idAt}
 use Rattle.naming.specs.Naming.{firstOf, numberKey, named, kindOf, tagOf}
-use Rattle.naming.specs.Lists.{shown, kindIn, Indexed}
+use Rattle.naming.specs.Lists.{shown, kindIn, tagIn, Indexed}
 use Rattle.naming.specs.Steps.{numberIn}
 use Rattle.naming.proofs.First.{Without, to-none, to-first, first-le, first-ext}
 use Rattle.naming.proofs.Shown.{shown-long, shown-kind}
 use Rattle.naming.proofs.Climb.{named-le}
-use Rattle.breaches.specs.Lists.{tagIn}
-use Rattle.breaches.proofs.Tabled.{starts, kinds, names, within, tag-is}
+use Rattle.naming.proofs.Tabled.{starts, kinds, names, within, tag-is}
 use Rattle.device.specs.Queries.{startOf}
 use Rattle.judging.specs.Judging.{elementFor, entryFor, namedBy, objectFor}
 use Rattle.judging.specs.Parts.{startIn, entryIn, namedFrom, objectIn, ObjectIf}

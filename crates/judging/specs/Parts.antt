@@ -6,7 +6,7 @@ use lib.ListN.{getD}
 use Rattle.records.specs.Fields.{entryOf}
 use Rattle.pool.specs.Reading.{Entry, width}
 use Rattle.naming.specs.Naming.{firstOf}
-use Rattle.breaches.specs.Lists.{namedIn, tagIn}
+use Rattle.naming.specs.Lists.{tagIn, namedIn}
 use Rattle.judging.specs.Judging.{objectFor}
 use Rattle.judging.specs.declared.Sought.{Sought}
 use Rattle.judging.specs.declared.Sought.the-variants.{Object, Short}

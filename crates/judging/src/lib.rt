@@ -79,7 +79,7 @@ fn find_entry(p: &[u8], table: &[u16], index: &[u16], at: u16, size: u16, ddi: u
     let mut m: u16 = 0;
     while m < size {
         let named = naming::named_at(index, records::view::entry(p, at, m));
-        if breaches::element::tag_at(p, table, named) == ddi as usize + 1 {
+        if elements::tag_at(p, table, named) == ddi as usize + 1 {
             return named;
         }
         m += 1;

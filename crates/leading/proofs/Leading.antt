@@ -16,16 +16,18 @@ use Rattle.wire.specs.Bytes.{numberAt}
 use Rattle.records.specs.Fields.{elementOf}
 use Rattle.records.specs.declared.DeviceElement.{DeviceElement}
 use Rattle.faults.specs.Faults.{Fault}
-use Rattle.faults.specs.Rows.{Row, inRows}
+use Rattle.faults.specs.Rows.{Row, inRows, AllClear}
 use Rattle.faults.specs.Emission.{Puts}
+use Rattle.faults.proofs.Clearing.{up-to-clear}
 use Rattle.pool.specs.Reading.{Entry, width}
 use Rattle.naming.specs.Records.{startAt, idAt, kindAt}
 use Rattle.naming.specs.Naming.{firstOf, numberKey, named, kindOf, parentOf, climb, isData, tagOf}
-use Rattle.naming.specs.Lists.{entryIn, shown, kindIn, Blank}
+use Rattle.naming.specs.Lists.{entryIn, shown, kindIn, namedIn, Blank}
 use Rattle.naming.specs.Links.{linkOf, Linked, ownFits, Owned}
 use Rattle.naming.specs.Steps.{entered}
 use Rattle.naming.proofs.First.{first-none, to-first}
 use Rattle.naming.proofs.Shown.{shown-long, shown-kind}
+use Rattle.naming.proofs.Tabled.{starts, kinds}
 use Rattle.naming.proofs.Links.{link-number, link-right}
 use Rattle.naming.proofs.Climb.{named-le, parent-zero}
 use Rattle.naming.proofs.Named.{parent-none, parent-some, parent-other}
@@ -33,11 +35,9 @@ use Rattle.naming.proofs.Entering.{number-shown, number-element, number-none, i
 use Rattle.rules.proofs.Truth.{both, either}
 use Rattle.rules.proofs.Repeats.{repeats-number}
 use Rattle.rules.specs.Table.{repeats, isParent, badOwn, elementKey, entryNamed, ownRows, fieldRows, elementRows, presentedRows, kindRows, recordRows}
-use Rattle.breaches.specs.Lists.{namedIn}
-use Rattle.breaches.specs.Clean.{AllClear, Apart}
+use Rattle.fields.specs.Clean.{Apart}
+use Rattle.fields.proofs.Clearing.{and-false, element-clear}
 use Rattle.leading.specs.Leading.{Faultless, Leading}
-use Rattle.breaches.proofs.Tabled.{starts, kinds, ids}
-use Rattle.breaches.proofs.Clearing.{up-to-clear, and-false, element-clear}
 
 -- ---- rows without a fault
 

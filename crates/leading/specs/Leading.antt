@@ -9,6 +9,8 @@ use Rattle.pool.specs.Reading.{Entry}
 use Rattle.naming.specs.Naming.{numberKey, parentOf}
 use Rattle.naming.specs.Lists.{shown, IndexedBelow}
 use Rattle.rules.specs.Table.{recordRows}
+use Rattle.leading.specs.declared.Tried.{Tried}
+use Rattle.leading.specs.declared.Tried.the-variants.{Counted, Short}
 
 -- rows without a fault, whatever the record's number
 abbrev pub Faultless : ℕ → List Row → Type 0
@@ -23,6 +25,11 @@ pub record Leading (p table : List ℕ) (count : ℕ) (numbers : List ℕ) (i : 
 pub record Led (p : List ℕ) (es : List Entry) (n k : ℕ) : Type 0 where
   pub within : k ≤ n
   pub clear : (j : ℕ) → j < k → Faultless (j + 1) (recordRows p es j)
+
+-- the same by lists of some length, unless they are too short
+abbrev pub LedIf : List ℕ → List Entry → ℕ → Tried → Type 0
+LedIf p es n (Counted k) = Led p es n k
+LedIf p es n Short = Unit {0}
 
 -- where a tag is stamped in a list of so many numbers
 abbrev pub placeIn : ℕ → ℕ → ℕ

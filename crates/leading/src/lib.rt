@@ -1,8 +1,8 @@
 // How many records from the first on have no fault. In most pools all have none, and then one look at each is enough, whose
 // tests are joined without a branch between them. A look may leave a record without a fault undecided, and never the other way.
 // Fields are read behind one test that the record reaches no further than the pool.
-use breaches::fields;
-use breaches::record;
+pub mod sound;
+
 use records::DeviceElement;
 ghost use mathlib.Core.Path.{_≡_};
 ghost use mathlib.Core.Bool.{true, not};
@@ -12,16 +12,22 @@ ghost use lib.Dec.{eqb};
 ghost use lib.ListN.{length, getD};
 ghost use Rattle.wire.specs.Bytes.{numberAt};
 ghost use Rattle.records.specs.Fields.{deviceOf, elementOf, entryOf, processDataOf, propertyOf, presentationOf};
+ghost use Rattle.faults.specs.Rows.{AllClear};
 ghost use Rattle.pool.specs.Reading.{Entry, width};
 ghost use Rattle.naming.specs.Records.{startAt, kindAt};
 ghost use Rattle.naming.specs.Naming.{firstOf, kindOf, tagOf};
-ghost use Rattle.naming.specs.Lists.{shown, Blank};
+ghost use Rattle.naming.specs.Lists.{shown, namedIn, Blank};
 ghost use Rattle.naming.specs.Links.{linkOf, Linked, Owned};
 ghost use Rattle.naming.specs.Steps.{entered};
 ghost use Rattle.rules.specs.Table.{isParent, entryNamed, fieldRows, elementRows, deviceRows, presentedRows, dataRows, propertyRows, valueRows, kindRows, recordRows};
-ghost use Rattle.breaches.specs.Clean.{AllClear, Apart};
+ghost use Rattle.fields.specs.Clean.{Apart};
 ghost use Rattle.leading.specs.Leading.{Faultless, Leading, Led, placeIn};
-ghost use Rattle.breaches.specs.Lists.{namedIn};
+
+// A try with lists of some length: what was counted, or that the lists are too short for this pool.
+pub enum Tried {
+    Counted(usize),
+    Short,
+}
 
 // Rules 6 and 7 of a presentation's ID.
 fn is_presented(table: &[u16], count: usize, links: &[u16], id: u16) -> bool
@@ -93,7 +99,7 @@ fn tag_linked(p: &[u8], table: &[u16], count: usize, link: u16) -> usize
 {
     let kind = link % 8;
     if (kind == 3) | (kind == 4) {
-        let ddi_at = record::number_at(table, link as usize / 8 * 4) as usize + 5;
+        let ddi_at = naming::number_at(table, link as usize / 8 * 4) as usize + 5;
         if p.len() < ddi_at + 2 {
             return 0;
         }
@@ -262,7 +268,7 @@ fn is_clear(
 
 // How many records from the first on have no fault, as far as lists of these lengths tell. Rules 1 and 2 were settled with the
 // links.
-pub fn lead(
+fn lead(
     p: &[u8],
     table: &[u16],
     count: usize,

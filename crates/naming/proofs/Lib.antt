@@ -6,3 +6,5 @@ pub mod Climb
 pub mod Named
 pub mod Entering
 pub mod Jumping
+pub mod Tabled
+pub mod Lists

@@ -1,13 +1,16 @@
 -- The lists that naming works with. Definitions only.
 use Prim.Native.Nat.{ℕ, zero, suc, _+_, _*_, _≤_, _<_}
 use mathlib.Core.Path.{_≡_}
+use mathlib.Core.Bool.{cond}
 use mathlib.Core.Logic.{_↔_}
 use mathlib.Core.List.{List, [], _∷_, _++_}
+use lib.Dec.{eqb}
 use lib.ListN.{length, getD}
+use Rattle.wire.specs.Bytes.{numberAt}
 use Rattle.records.specs.Fields.{elementOf}
 use Rattle.pool.specs.Reading.{Entry, width}
 use Rattle.naming.specs.Records.{startAt, kindAt}
-use Rattle.naming.specs.Naming.{firstOf, parentOf, climb}
+use Rattle.naming.specs.Naming.{firstOf, parentOf, climb, isData}
 
 -- the records that a working table shows: entry i, and the first n
 abbrev pub entryIn : List ℕ → ℕ → Entry
@@ -27,6 +30,18 @@ shown table (suc n) = shown table n ++ entryIn table n ∷ []
 abbrev pub kindIn : List ℕ → ℕ → ℕ
 kindIn table zero = 0
 kindIn table (suc i) = getD table (i * width + 2) 0
+
+-- the DDI of the record with a number from 1, and its tag, by the table
+abbrev pub ddiIn : List ℕ → List ℕ → ℕ → ℕ
+ddiIn p table zero = 0
+ddiIn p table (suc i) = numberAt 2 p (getD table (i * width) 0 + 5)
+
+abbrev pub tagIn : List ℕ → List ℕ → ℕ → ℕ
+tagIn p table r = cond (isData (kindIn table r)) (suc (ddiIn p table r)) 0
+
+-- the number of the record that an ID names, by a list of records by ID
+abbrev pub namedIn : List ℕ → ℕ → ℕ
+namedIn index x = cond (eqb x 65535) 0 (getD index x 0)
 
 -- a list of zeros
 abbrev pub Blank : List ℕ → Type 0

@@ -137,6 +137,16 @@ pub fn index_numbers(p: &[u8], table: &[u16], count: usize, room: usize, index: 
     true
 }
 
+// A number of a list, 0 behind its end.
+pub fn number_at(list: &[u16], i: usize) -> u16
+    ensures { λ r. ⌜ r ≡ getD (now (list .entry)) i 0 ⌝ }
+{
+    if i < list.len() {
+        return list[i];
+    }
+    0
+}
+
 // The number of the record that an ID names, by the list; 0 for none.
 pub fn named_at(index: &[u16], id: u16) -> u16
     ensures { λ r. ⌜ r ≡ cond (eqb id 65535) 0 (getD (now (index .entry)) id 0) ⌝ }

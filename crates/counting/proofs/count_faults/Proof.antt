@@ -2,8 +2,8 @@
 use mathlib.Core.Path.{_≡_}
 use Rattle.naming.specs.Lists.{shown}
 use Rattle.leading.specs.Leading.{Led}
+use Rattle.leading.proofs.Tries.{led-none}
 use Rattle.counting.proofs.Whole.{led-all}
-use Rattle.counting.proofs.Tries.{led-none}
 use borrow.Author.Needs.{needs}
 use Rattle.counting.proofs.count_faults.Statement.{statement}
 use Rattle.counting.proofs.count_faults.Tie as tie

@@ -3,7 +3,8 @@ use mathlib.Core.Path.{sym, _∙_}
 use mathlib.Core.Bool.{true≢false}
 use native.Mathlib.Omega.{arith}
 use borrow.Author.Tests.{not-true, not-false}
-use Rattle.counting.proofs.Lists.{blank, lent, long}
+use Rattle.naming.proofs.Lists.{blank, long}
+use Rattle.counting.proofs.Lists.{lent}
 use borrow.Author.Needs.{needs}
 use Rattle.counting.proofs.count_long.Statement.{statement}
 use Rattle.counting.proofs.count_long.Tie as tie

@@ -5,7 +5,7 @@ use native.Mathlib.Omega.{arith}
 use Rattle.naming.specs.Records.{kindAt}
 use Rattle.naming.specs.Lists.{shown}
 use Rattle.naming.proofs.First.{Without, to-none}
-use Rattle.breaches.proofs.Tabled.{kinds}
+use Rattle.naming.proofs.Tabled.{kinds}
 use Rattle.counting.proofs.Looking.{none-yet, none-more, first-found}
 use Rattle.counting.proofs.first_device.Statement.{statement}
 use Rattle.counting.proofs.first_device.Tie as tie

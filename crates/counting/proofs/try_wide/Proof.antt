@@ -1,7 +1,8 @@
 -- `counting::try_wide` meets its contract. Assumes nothing.
 use native.Mathlib.Omega.{arith}
 use borrow.Author.Tests.{not-false}
-use Rattle.counting.proofs.Lists.{blank, lent, long}
+use Rattle.naming.proofs.Lists.{blank, long}
+use Rattle.counting.proofs.Lists.{lent}
 use borrow.Author.Needs.{needs}
 use Rattle.counting.proofs.try_wide.Statement.{statement}
 use Rattle.counting.proofs.try_wide.Tie as tie

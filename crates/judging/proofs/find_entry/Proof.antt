@@ -4,7 +4,7 @@ use mathlib.Core.List.{List}
 use Prim.Native.Nat.{ℕ, suc, _-_, _≤_}
 use native.Mathlib.Numerals.{add-one}
 use native.Mathlib.Omega.{arith}
-use Rattle.breaches.specs.Lists.{namedIn, tagIn}
+use Rattle.naming.specs.Lists.{tagIn, namedIn}
 use Rattle.naming.proofs.First.{Without}
 use Rattle.counting.proofs.Looking.{none-yet, none-more}
 use Rattle.judging.specs.Parts.{entryIn}

@@ -2,7 +2,7 @@
 use mathlib.Core.Path.{ap}
 use native.Mathlib.Omega.{arith}
 use Rattle.records.specs.declared.DeviceElement.{DeviceElement}
-use Rattle.counting.proofs.Lists.{blank, long}
+use Rattle.naming.proofs.Lists.{blank, long}
 use Rattle.judging.proofs.Found.{object-shown}
 use borrow.Author.Needs.{needs}
 use Rattle.judging.proofs.find_long.Statement.{statement}

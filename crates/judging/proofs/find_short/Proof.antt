@@ -2,7 +2,7 @@
 use mathlib.Core.Path.{ap}
 use borrow.Author.Tests.{not-false}
 use Rattle.records.specs.declared.DeviceElement.{DeviceElement}
-use Rattle.counting.proofs.Lists.{blank}
+use Rattle.naming.proofs.Lists.{blank}
 use Rattle.judging.proofs.Found.{object-shown}
 use borrow.Author.Needs.{needs}
 use Rattle.judging.proofs.find_short.Statement.{statement}

@@ -2,8 +2,8 @@
 use mathlib.Core.Path.{_≡_}
 use Prim.Native.Nat.{_+_}
 use Rattle.naming.specs.Lists.{shown}
-use Rattle.breaches.proofs.ByKind.{as-element}
-use Rattle.breaches.proofs.Clearing.{in-clear}
+use Rattle.faults.proofs.Clearing.{in-clear}
+use Rattle.fields.proofs.ByKind.{as-element}
 use Rattle.leading.proofs.Leading.{record-leads, leading-other}
 use borrow.Author.Needs.{needs}
 use Rattle.leading.proofs.is_clear.Statement.{statement}

@@ -4,10 +4,10 @@ use mathlib.Core.List.{List}
 use Prim.Native.Nat.{ℕ}
 use borrow.Author.Tests.{leb-true}
 use Rattle.pool.specs.Reading.{Entry}
+use Rattle.naming.specs.Lists.{namedIn}
 use Rattle.naming.specs.Links.{linkOf}
 use Rattle.rules.proofs.Truth.{both}
-use Rattle.breaches.specs.Lists.{namedIn}
-use Rattle.breaches.proofs.Clearing.{fields-clear}
+use Rattle.fields.proofs.Clearing.{fields-clear}
 use borrow.Author.Needs.{needs}
 use Rattle.leading.proofs.is_clear_alone.Statement.{statement}
 use Rattle.leading.proofs.is_clear_alone.Tie as tie

@@ -7,8 +7,8 @@ use borrow.Author.Tests.{eqb-true}
 use lib.Dec.{eqb}
 use Rattle.records.specs.declared.Device.{Device}
 use Rattle.rules.specs.Table.{deviceRows}
+use Rattle.fields.proofs.ByKind.{near}
 use Rattle.leading.specs.Leading.{Faultless}
-use Rattle.breaches.proofs.ByKind.{near}
 use Rattle.leading.proofs.Leading.{none-counted}
 use borrow.Author.Needs.{needs}
 use Rattle.leading.proofs.is_clear_device.Statement.{statement}

@@ -7,13 +7,12 @@ use lib.ListN.{length, getD, set, length-set}
 use Rattle.wire.specs.Bytes.{numberAt}
 use Rattle.records.specs.Fields.{entryOf}
 use Rattle.naming.specs.Naming.{named, tagOf}
-use Rattle.naming.specs.Lists.{shown}
+use Rattle.naming.specs.Lists.{shown, namedIn}
 use Rattle.naming.specs.Links.{linkOf}
 use Rattle.rules.specs.Table.{entryNamed}
 use Rattle.rules.proofs.Truth.{untrue}
-use Rattle.breaches.specs.Lists.{namedIn}
+use Rattle.fields.proofs.Clearing.{Placed, placed-none, placed-more, neither}
 use Rattle.leading.specs.Leading.{placeIn}
-use Rattle.breaches.proofs.Clearing.{Placed, placed-none, placed-more, neither}
 use Rattle.leading.proofs.Leading.{link-named, named-within}
 use Rattle.leading.proofs.is_clear_list.Statement.{statement}
 use Rattle.leading.proofs.is_clear_list.Tie as tie

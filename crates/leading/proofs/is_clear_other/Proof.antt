@@ -5,8 +5,8 @@ use lib.ListN.{getD}
 use Rattle.records.specs.Fields.{deviceOf, presentationOf}
 use Rattle.naming.specs.Lists.{shown}
 use Rattle.faults.proofs.Emission.{rows-nil}
-use Rattle.breaches.proofs.ByKind.{as-none, device-rows, data-rows, property-rows, value-rows}
-use Rattle.breaches.proofs.Clearing.{in-clear}
+use Rattle.faults.proofs.Clearing.{in-clear}
+use Rattle.fields.proofs.ByKind.{as-none, device-rows, data-rows, property-rows, value-rows}
 use borrow.Author.Needs.{needs}
 use Rattle.leading.proofs.is_clear_other.Statement.{statement}
 use Rattle.leading.proofs.is_clear_other.Tie as tie

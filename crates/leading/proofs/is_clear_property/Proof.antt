@@ -7,8 +7,9 @@ use Rattle.records.specs.declared.Property.{Property}
 use Rattle.naming.specs.Lists.{shown}
 use Rattle.rules.specs.Table.{propertyRows, presentedRows}
 use Rattle.rules.proofs.Truth.{both, untrue}
-use Rattle.breaches.specs.Clean.{AllClear}
-use Rattle.breaches.proofs.Clearing.{clear-then, property-clear}
+use Rattle.faults.specs.Rows.{AllClear}
+use Rattle.faults.proofs.Clearing.{clear-then}
+use Rattle.fields.proofs.Clearing.{property-clear}
 use borrow.Author.Needs.{needs}
 use Rattle.leading.proofs.is_clear_property.Statement.{statement}
 use Rattle.leading.proofs.is_clear_property.Tie as tie

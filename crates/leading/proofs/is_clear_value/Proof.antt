@@ -4,8 +4,8 @@ use borrow.Author.Tests.{ltb-true, leb-true}
 use Rattle.records.specs.declared.ValuePresentation.{ValuePresentation}
 use Rattle.rules.specs.Table.{valueRows}
 use Rattle.rules.proofs.Truth.{both, untrue}
-use Rattle.breaches.specs.Clean.{AllClear}
-use Rattle.breaches.proofs.Clearing.{value-clear}
+use Rattle.faults.specs.Rows.{AllClear}
+use Rattle.fields.proofs.Clearing.{value-clear}
 use borrow.Author.Needs.{needs}
 use Rattle.leading.proofs.is_clear_value.Statement.{statement}
 use Rattle.leading.proofs.is_clear_value.Tie as tie

@@ -6,7 +6,7 @@ use lib.ListN.{getD}
 use Rattle.records.specs.Fields.{presentationOf}
 use Rattle.naming.specs.Lists.{shown}
 use Rattle.rules.proofs.Truth.{untrue}
-use Rattle.breaches.proofs.ByKind.{as-element, data-rows, property-rows, value-rows}
+use Rattle.fields.proofs.ByKind.{as-element, data-rows, property-rows, value-rows}
 use Rattle.breaches.proofs.Clearing.{record-clear}
 use borrow.Author.Needs.{needs}
 use Rattle.breaches.proofs.clean.is_clean.Statement.{statement}

@@ -4,7 +4,7 @@ use borrow.Author.Tests.{leb-true, not-false}
 use Rattle.naming.specs.Lists.{kindIn}
 use Rattle.rules.specs.Table.{isParent}
 use Rattle.rules.proofs.Truth.{both, untrue}
-use Rattle.breaches.proofs.Clearing.{fields-clear}
+use Rattle.fields.proofs.Clearing.{fields-clear}
 use borrow.Author.Needs.{needs}
 use Rattle.breaches.proofs.clean.is_clean_alone.Statement.{statement}
 use Rattle.breaches.proofs.clean.is_clean_alone.Tie as tie

@@ -6,8 +6,9 @@ use Rattle.records.specs.declared.ProcessData.{ProcessData}
 use Rattle.naming.specs.Lists.{shown}
 use Rattle.rules.specs.Table.{dataRows, presentedRows}
 use Rattle.rules.proofs.Truth.{both}
-use Rattle.breaches.specs.Clean.{AllClear}
-use Rattle.breaches.proofs.Clearing.{clear-then, data-clear}
+use Rattle.faults.specs.Rows.{AllClear}
+use Rattle.faults.proofs.Clearing.{clear-then}
+use Rattle.fields.proofs.Clearing.{data-clear}
 use borrow.Author.Needs.{needs}
 use Rattle.breaches.proofs.clean.is_clean_data.Statement.{statement}
 use Rattle.breaches.proofs.clean.is_clean_data.Tie as tie

@@ -6,12 +6,11 @@ use native.Mathlib.Omega.{arith}
 use borrow.Author.Tests.{eq-eqb}
 use lib.ListN.{length, length-set}
 use Rattle.naming.specs.Naming.{tagOf}
-use Rattle.naming.specs.Lists.{shown}
+use Rattle.naming.specs.Lists.{shown, tagIn, namedIn}
+use Rattle.naming.proofs.Tabled.{tags}
 use Rattle.rules.specs.Table.{entryNamed}
 use Rattle.rules.proofs.Truth.{untrue}
-use Rattle.breaches.specs.Lists.{namedIn, tagIn}
-use Rattle.breaches.proofs.Tabled.{tags}
-use Rattle.breaches.proofs.Clearing.{Placed, placed-none, placed-more, neither}
+use Rattle.fields.proofs.Clearing.{Placed, placed-none, placed-more, neither}
 use Rattle.breaches.proofs.clean.is_clean_list.Statement.{statement}
 use Rattle.breaches.proofs.clean.is_clean_list.Tie as tie
 

@@ -7,7 +7,8 @@ use Rattle.records.specs.Fields.{elementOf}
 use Rattle.records.specs.declared.DeviceElement.{DeviceElement}
 use Rattle.naming.specs.Records.{startAt}
 use Rattle.naming.specs.Lists.{shown}
-use Rattle.breaches.proofs.Tabled.{starts, element, size-within}
+use Rattle.naming.proofs.Tabled.{starts}
+use Rattle.breaches.proofs.Tabled.{element, size-within}
 use borrow.Author.Needs.{needs}
 use Rattle.breaches.proofs.record.put_element.Statement.{statement}
 use Rattle.breaches.proofs.record.put_element.Tie as tie

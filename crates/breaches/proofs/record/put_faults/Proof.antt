@@ -5,10 +5,11 @@ use Prim.Native.Nat.{ℕ, _+_, _*_}
 use lib.ListN.{getD}
 use native.Mathlib.Omega.{arith}
 use Rattle.faults.proofs.Emission.{puts-none}
-use Rattle.breaches.proofs.Tabled.{kinds}
-use Rattle.breaches.proofs.ByKind.{near, as-element, as-none, device-rows, data-rows, property-rows, value-rows, all-rows}
-use Rattle.naming.proofs.Shown.{shown-long}
 use Rattle.naming.specs.Lists.{shown}
+use Rattle.naming.proofs.Shown.{shown-long}
+use Rattle.naming.proofs.Tabled.{kinds}
+use Rattle.fields.proofs.ByKind.{near, as-element, as-none, device-rows, data-rows, property-rows, value-rows}
+use Rattle.breaches.proofs.Tabled.{all-rows}
 use borrow.Author.Needs.{needs}
 use Rattle.breaches.proofs.record.put_faults.Statement.{statement}
 use Rattle.breaches.proofs.record.put_faults.Tie as tie

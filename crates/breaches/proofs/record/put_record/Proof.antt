@@ -2,7 +2,7 @@
 use mathlib.Core.Path.{_≡_}
 use native.Mathlib.Omega.{arith}
 use lib.ListN.{length}
-use Rattle.breaches.proofs.Clearing.{puts-clear}
+use Rattle.faults.proofs.Clearing.{puts-clear}
 use borrow.Author.Needs.{needs}
 use Rattle.breaches.proofs.record.put_record.Statement.{statement}
 use Rattle.breaches.proofs.record.put_record.Tie as tie

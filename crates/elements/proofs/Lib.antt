@@ -1,0 +1,4 @@
+-- What belongs to no one function.
+pub mod Seen
+pub mod Walking
+pub mod Nameless

@@ -1,0 +1,39 @@
+-- `elements::tag_at` meets its contract. Assumes nothing.
+use mathlib.Core.Path.{refl}
+use native.Mathlib.Omega.{arith}
+use borrow.Author.Needs.{needs}
+use Rattle.elements.proofs.tag_at.Statement.{statement}
+use Rattle.elements.proofs.tag_at.Tie as tie
+
+kind-at-requires : tie.Need-kind-at-requires
+kind-at-requires c κs = search needs
+
+is-data-requires : tie.Need-is-data-requires
+is-data-requires c κs = search needs
+
+ddi-at-requires : tie.Need-ddi-at-requires
+ddi-at-requires c κs = search needs
+
+cast-result : tie.Need-cast-result
+cast-result c = search needs
+
+add-result : tie.Need-add-result
+add-result c = search needs
+
+returns : tie.Need-returns
+returns c = (rw (← c .before .before .before .kind-at .ensures, ← c .before .before .is-data .ensures, c .before .if1 .taken) (omega (arith, c .ddi-at .ensures)), omega (arith))
+
+returns-2 : tie.Need-returns-2
+returns-2 c = (rw (← c .before .before .kind-at .ensures, ← c .before .is-data .ensures, c .if1 .left), omega arith)
+
+pub tag-at-spec : {M : Type 1} → statement M
+tag-at-spec =
+    tie.close
+    (tie.spec
+    kind-at-requires
+    is-data-requires
+    ddi-at-requires
+    cast-result
+    add-result
+    returns
+    returns-2)

@@ -1,0 +1,2 @@
+-- What the contracts of `elements` cite.
+pub mod Lists
