@@ -11,48 +11,56 @@ import sys
 DOCS = Path(__file__).resolve().parent
 
 # Centres of the columns and of the rows.
-COLUMN = {"log": 185, "exchange": 325, "beside": 460, "spine": 605, "table": 750, "session": 885, "claim": 1045}
+COLUMN = {"log": 185, "exchange": 325, "beside": 460, "spine": 605, "table": 750, "session": 905, "claim": 1070}
 TOP, PITCH = 100, 64
 WIDTH, HEIGHT = 124, 42
-PICTURE = 1130, 913
+PICTURE = 1155, 977
 
 # Each layer: its name in lines, its first row and its last.
 LAYERS = [
     (["programs,", "C boundary"], 0, 0),
     (["interface"], 1, 1),
-    (["accepted pools,", "sessions, logs,", "messages"], 2, 3),
-    (["checking"], 4, 8),
-    (["reading"], 9, 10),
-    (["records, bytes"], 11, 12),
+    (["accepted pools,", "sessions, logs,", "messages"], 2, 4),
+    (["checking"], 5, 9),
+    (["reading"], 10, 11),
+    (["records, bytes"], 12, 13),
 ]
 
 # Each crate: its column, its row and what it holds, in a few words.
 BOXES = {
     "terminal": ("exchange", 0, "the C boundary, a static library"),
     "lister": ("claim", 0, "the program"),
+    "answers": ("beside", 1, "as numbers for C"),
     "device_pool": ("spine", 1, "over the lent table"),
+    "listing": ("claim", 1, "its lines"),
+    "log_writing": ("log", 2, "log records written"),
     "presentation": ("exchange", 2, "displayed values"),
     "judging": ("spine", 2, "commands judged"),
     "cases": ("claim", 2, "worked cases"),
-    "time_log": ("log", 3, "log records, logs"),
+    "log_reading": ("log", 3, "log records, logs"),
     "messages": ("exchange", 3, "process data"),
     "device": ("spine", 3, "texts and labels"),
-    "session": ("session", 3, "one client's calls"),
+    "client": ("table", 3, "a session for C"),
+    "activation": ("session", 3, "checked and kept"),
     "book": ("claim", 3, "all lists of calls"),
-    "checker": ("spine", 4, "checking a pool"),
-    "claims": ("claim", 4, "reading, checking"),
-    "counting": ("spine", 5, "faults of a pool"),
-    "leading": ("spine", 6, "sound records"),
+    "time_log": ("log", 4, "a record's layout"),
+    "session": ("session", 4, "one client's calls"),
+    "checker": ("spine", 5, "checking a pool"),
+    "claims": ("claim", 5, "reading, checking"),
+    "counting": ("spine", 6, "faults of a pool"),
+    "leading": ("beside", 7, "sound records"),
     "breaches": ("spine", 7, "faults of a record"),
-    "rules": ("spine", 8, "the rule table"),
-    "faults": ("beside", 8, "the fault buffer"),
-    "naming": ("spine", 9, "what an ID names"),
-    "text": ("beside", 9, "one text examined"),
-    "working_table": ("table", 9, "the lent table"),
-    "pool": ("spine", 10, "reading a pool"),
-    "records": ("spine", 11, "the five records"),
-    "division": ("claim", 11, "independent account"),
-    "wire": ("spine", 12, "numbers in bytes"),
+    "fields": ("beside", 8, "rules on fields"),
+    "elements": ("spine", 8, "rules on elements"),
+    "rules": ("spine", 9, "the rule table"),
+    "faults": ("session", 9, "the fault buffer"),
+    "naming": ("spine", 10, "what an ID names"),
+    "text": ("beside", 10, "one text examined"),
+    "working_table": ("table", 10, "the lent table"),
+    "pool": ("spine", 11, "reading a pool"),
+    "records": ("spine", 12, "the five records"),
+    "division": ("claim", 12, "independent account"),
+    "wire": ("spine", 13, "numbers in bytes"),
 }
 PROGRAMS = {"terminal", "lister"}
 CLAIMS = {"cases", "book", "claims", "division"}
@@ -60,12 +68,19 @@ CLAIMS = {"cases", "book", "claims", "division"}
 # Arrows that do not go straight: from which side and how far from its middle, the turns in between (x or y in turn), to
 # which side and how far from its middle.
 BENDS = {
-    ("lister", "checker"): ("bottom", 0, [1, COLUMN["table"]], "right", -15),
+    ("lister", "checker"): ("bottom", -40, [0.5, 832], "right", -15),
     ("checker", "working_table"): ("right", 16, [], "top", 0),
-    ("judging", "messages"): ("left", 0, [COLUMN["beside"]], "right", 0),
-    ("session", "checker"): ("bottom", 0, [], "right", -5),
+    ("answers", "judging"): ("bottom", 0, [], "left", -9),
+    ("judging", "messages"): ("left", 9, [COLUMN["beside"]], "right", 0),
+    ("activation", "checker"): ("left", 9, [820], "right", -5),
+    ("client", "session"): ("bottom", 30, [], "left", 0),
+    ("session", "wire"): ("right", 0, [987], "right", 0),
     ("claims", "checker"): ("left", 6, [], "right", 6),
-    ("rules", "text"): ("bottom", -30, [8.5], "top", 0),
+    ("counting", "leading"): ("left", 0, [], "top", 0),
+    ("breaches", "fields"): ("bottom", -30, [7.5], "top", 30),
+    ("fields", "rules"): ("bottom", 30, [8.5], "top", -30),
+    ("rules", "faults"): ("right", 0, [], "left", 0),
+    ("rules", "text"): ("bottom", -30, [9.5], "top", 0),
     ("working_table", "pool"): ("bottom", 0, [], "right", 0),
     ("text", "records"): ("bottom", 0, [], "left", 0),
     ("messages", "wire"): ("bottom", 0, [], "left", -9),
