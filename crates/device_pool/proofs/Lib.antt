@@ -1,6 +1,4 @@
 -- What belongs to no one function.
-pub mod Tables
 pub mod Lists
 pub mod Finding
 pub mod Labelling
-pub mod Judging

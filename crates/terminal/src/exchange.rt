@@ -6,7 +6,7 @@ ghost use lib.ListN.{length};
 ghost use Rattle.messages.specs.Reading.{readOf};
 ghost use Rattle.messages.specs.Writing.{valueRefusal, valueAfter, acknowledgeRefusal, acknowledgeAfter};
 ghost use Rattle.judging.specs.Judging.{judgeNumber, judgeError};
-ghost use Rattle.device_pool.specs.Tables.{judgedRecords};
+ghost use Rattle.commands.specs.Tables.{judgedRecords};
 ghost use Rattle.answers.specs.Exchange.{fieldsIn};
 
 // Reads a message.
@@ -58,6 +58,6 @@ pub extern "C" fn lachsbrille_judge(
 ) -> u32
     ensures { λ r. ⌜ (r ≡ judgeNumber (now (p .entry)) (length (now (table .entry))) element) × (now (error .exit) ≡ judgeError (now (p .entry)) (length (now (table .entry))) command element ddi value) × (now (table .exit) ≡ judgedRecords (now (p .entry)) (now (table .entry)) element) ⌝ }
 {
-    let judgement = device_pool::judge(p, table, command, element, ddi, value);
+    let judgement = commands::judge(p, table, command, element, ddi, value);
     answers::give_judgement(judgement, error)
 }

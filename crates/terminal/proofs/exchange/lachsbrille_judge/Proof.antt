@@ -1,4 +1,4 @@
--- `terminal::exchange::lachsbrille_judge` meets its contract: a walk of its MIR, by hand. `device_pool::judge` gets p, the command and, for good, the table; `give_judgement` gets the judgement and, for good, the lent byte (`Giving.antt`).
+-- `terminal::exchange::lachsbrille_judge` meets its contract: a walk of its MIR, by hand. `commands::judge` gets p, the command and, for good, the table; `give_judgement` gets the judgement and, for good, the lent byte (`Giving.antt`).
 -- All that the proof knows of the two is that they meet their contracts.
 -- Assumes nothing.
 use mathlib.Core.Path.{_≡_, refl, _∙_, ap, subst}
@@ -45,13 +45,13 @@ use Rattle.judging.specs.declared.Judgement.{Judgement}
 use Rattle.judging.proofs.Judgement as S
 use Rattle.judging.proofs.Judgement.Laws as S′
 use Rattle.working_table.specs.declared.Record.{Record}
-use Rattle.device_pool.specs.Tables.{judgedRecords}
+use Rattle.commands.specs.Tables.{judgedRecords}
 use Rattle.working_table.proofs.Rec.{R}
 use Rattle.working_table.proofs.Gathering.{POwn}
-use Rattle.device_pool.proofs.judge as core
-use Rattle.device_pool.proofs.judge.Symbol as core-def
-use Rattle.device_pool.proofs.judge.Symbol.{name as #core}
-use Rattle.device_pool.proofs.judge.Met as core-thm
+use Rattle.commands.proofs.judge as core
+use Rattle.commands.proofs.judge.Symbol as core-def
+use Rattle.commands.proofs.judge.Symbol.{name as #core}
+use Rattle.commands.proofs.judge.Met as core-thm
 use Rattle.answers.proofs.Giving.{Give, gives}
 use Rattle.answers.proofs.give_judgement.Symbol as give-def
 use Rattle.answers.proofs.give_judgement.Symbol.{name as #give}
@@ -121,7 +121,7 @@ module _ {M : Type 1} (𝓤 : URA M) (H : Heap 𝓤) (A : Atoms 𝓤) (W : Given
   abbrev TOwn : Fml
   TOwn = MutSlice (named 1) κ′ R .own t (t-val ∷ [])
 
-  -- what `device_pool::judge` says of a judgement and of the table's last list
+  -- what `commands::judge` says of a judgement and of the table's last list
   abbrev Judges : Judgement → List Record → Type 0
   Judges r zs = (r .number ≡ judgeNumber p (length ys) element) × (r .error ≡ judgeError p (length ys) command element ddi value) × (zs ≡ judgedRecords p ys element)
 
@@ -134,7 +134,7 @@ module _ {M : Type 1} (𝓤 : URA M) (H : Heap 𝓤) (A : Atoms 𝓤) (W : Given
       nothing ! $ move ! (3 ∷ 0 ∷ []) $ fjoin ! $ owned ! i32 (Is i32) (sint-makes 𝓤 H A W w32) value _ (f .value-is) $ fjoin ! $ owned ! u16 (Is u16) (uint-makes 𝓤 H A W w16) ddi _ (f .ddi-is) $ fjoin ! $ owned ! u16 (Is u16) (uint-makes 𝓤 H A W w16) element _ (f .element-is) $ fjoin ! $ owned ! u8 (Is u8) (uint-makes 𝓤 H A W w8) command _ (f .command-is) $ fjoin ! $
       move ! (2 ∷ 0 ∷ []) $ fjoin ! $ move ! (1 ∷ 0 ∷ []) $ fjoin ! $ frame ! $ owned ! u32 (Is u32) (uint-makes 𝓤 H A W w32) m _ (refl, fits) $ done !
 
-  -- ---- the call of `device_pool::judge`
+  -- ---- the call of `commands::judge`
   abbrev c : RefT (List ℕ) × (RefT (List Record) × (ℕ × (ℕ × (ℕ × (ℤ × Unit {0})))))
   c = (x, (t, (command, (element, (ddi, (value, tt))))))
 
@@ -202,5 +202,5 @@ lachsbrille-judge-spec 𝓤 H 𝓜 𝓖 𝓡 =
     entered 𝓤 H (tripleOf 𝓤 H (𝓖 .A) judge.signature (judge.spec 𝓤 H (𝓖 .A) (𝓜 .mem) (𝓡 .run)))
     (tables 𝓤 H 𝓜 𝓡 code.env .C) (tables 𝓤 H 𝓜 𝓡 code.env .Λ) #judge code.function (code.unfolded 𝓤 H 𝓜 𝓡)
     (judge-meets 𝓤 H (𝓖 .A) (givenOf 𝓤 H 𝓜 𝓖) (𝓜 .mem) (𝓡 .run) (tablesOf 𝓤 H 𝓜 (tables 𝓤 H 𝓜 𝓡 code.env))
-    (cited 𝓤 H (Core 𝓤 H (𝓖 .A) (𝓜 .mem) (𝓡 .run)) 𝓜 𝓡 code.env #core core-def.routine code.calls-device-pool·judge (core-thm.met 𝓤 H 𝓜 𝓖 𝓡))
+    (cited 𝓤 H (Core 𝓤 H (𝓖 .A) (𝓜 .mem) (𝓡 .run)) 𝓜 𝓡 code.env #core core-def.routine code.calls-commands·judge (core-thm.met 𝓤 H 𝓜 𝓖 𝓡))
     (cited 𝓤 H (Given-out 𝓤 H (𝓖 .A)) 𝓜 𝓡 code.env #give give-def.routine code.calls-answers·give-judgement (give-thm.met 𝓤 H 𝓜 𝓖 𝓡)))

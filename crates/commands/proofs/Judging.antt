@@ -59,8 +59,8 @@ use Rattle.pool.specs.Reading.{width}
 use Rattle.pool.specs.Walk.{Reaches, Listed}
 use Rattle.working_table.specs.declared.Record.{Record}
 use Rattle.judging.specs.Judging.{judgeNumber, judgeError}
-use Rattle.device_pool.specs.Tables.{judgedRecords}
-use Rattle.device_pool.specs.Parts.{judgedCount}
+use Rattle.commands.specs.Tables.{judgedRecords}
+use Rattle.commands.specs.Parts.{judgedCount}
 use Rattle.working_table.proofs.Record.Laws as T′
 use Rattle.working_table.proofs.Rec.{R}
 use Rattle.working_table.proofs.Local.{repeats-are, repeats-typed}
@@ -73,16 +73,16 @@ use Rattle.counting.proofs.Lists.{reaches}
 use Rattle.judging.specs.declared.Judgement.{Judgement}
 use Rattle.judging.proofs.Judgement as D
 use Rattle.judging.proofs.Judgement.Laws as D′
-use Rattle.device_pool.specs.declared.Judged.{Judged}
-use Rattle.device_pool.proofs.Judged as S
-use Rattle.device_pool.proofs.Judged.Laws as S′
-use Rattle.device_pool.proofs.judge_by as core
-use Rattle.device_pool.proofs.judge_by.Symbol as core-def
-use Rattle.device_pool.proofs.judge_by.Symbol.{name as #core}
-use Rattle.device_pool.proofs.judge_by.Met as core-thm
+use Rattle.commands.specs.declared.Judged.{Judged}
+use Rattle.commands.proofs.Judged as S
+use Rattle.commands.proofs.Judged.Laws as S′
+use Rattle.commands.proofs.judge_by as core
+use Rattle.commands.proofs.judge_by.Symbol as core-def
+use Rattle.commands.proofs.judge_by.Symbol.{name as #core}
+use Rattle.commands.proofs.judge_by.Met as core-thm
 use Rattle.device_pool.proofs.Lists.{pTy, tTy, mTy, sTy, cTy, zero-is}
-use Rattle.device_pool.proofs.Tables.{judged-gathers}
-use Rattle.device_pool.proofs.judge as judge
+use Rattle.commands.proofs.Tables.{judged-gathers}
+use Rattle.commands.proofs.judge as judge
 
 -- ---- the code
 module _ (N : ℕ) (size : Operand) where

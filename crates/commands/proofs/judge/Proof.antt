@@ -1,4 +1,4 @@
--- `device_pool::judge` meets its contract: a walk of its MIR, by hand. The pool's length picks one of three functions with this contract (`Judging.antt`), which gets p as a copy, and the table for good; what is asked of the pool is what was tested.
+-- `commands::judge` meets its contract: a walk of its MIR, by hand. The pool's length picks one of three functions with this contract (`Judging.antt`), which gets p as a copy, and the table for good; what is asked of the pool is what was tested.
 -- Assumes nothing.
 use mathlib.Core.Path.{_≡_, refl, ap, subst}
 use Prim.Native.Nat.{ℕ, _≤_}
@@ -47,22 +47,22 @@ use Rattle.working_table.proofs.Reading.{AtMost, Any}
 use Rattle.judging.specs.declared.Judgement.{Judgement}
 use Rattle.judging.proofs.Judgement as D
 use Rattle.judging.proofs.Judgement.Laws as D′
 use Rattle.device_pool.proofs.Lists.{pTy, tTy, eTy, cTy}
-use Rattle.device_pool.proofs.Judging.{stayed, Judging, vals, mach, Fit, Answers, exits, judges-by}
-use Rattle.device_pool.proofs.judge_short.Symbol as short-def
-use Rattle.device_pool.proofs.judge_short.Symbol.{name as #short}
-use Rattle.device_pool.proofs.judge_short.Met as short-thm
-use Rattle.device_pool.proofs.judge_middle.Symbol as middle-def
-use Rattle.device_pool.proofs.judge_middle.Symbol.{name as #middle}
-use Rattle.device_pool.proofs.judge_middle.Met as middle-thm
-use Rattle.device_pool.proofs.judge_long.Symbol as long-def
-use Rattle.device_pool.proofs.judge_long.Symbol.{name as #long}
-use Rattle.device_pool.proofs.judge_long.Met as long-thm
-use Rattle.device_pool.proofs.judge.Key.{name as #judge}
-use Rattle.device_pool.proofs.judge as judge
-use Rattle.device_pool.proofs.judge.Statement as stated
-use Rattle.device_pool.proofs.judge.Code as code
-use Rattle.device_pool.proofs.judge.Code.Mir as piece
+use Rattle.commands.proofs.Judging.{stayed, Judging, vals, mach, Fit, Answers, exits, judges-by}
+use Rattle.commands.proofs.judge_short.Symbol as short-def
+use Rattle.commands.proofs.judge_short.Symbol.{name as #short}
+use Rattle.commands.proofs.judge_short.Met as short-thm
+use Rattle.commands.proofs.judge_middle.Symbol as middle-def
+use Rattle.commands.proofs.judge_middle.Symbol.{name as #middle}
+use Rattle.commands.proofs.judge_middle.Met as middle-thm
+use Rattle.commands.proofs.judge_long.Symbol as long-def
+use Rattle.commands.proofs.judge_long.Symbol.{name as #long}
+use Rattle.commands.proofs.judge_long.Met as long-thm
+use Rattle.commands.proofs.judge.Key.{name as #judge}
+use Rattle.commands.proofs.judge as judge
+use Rattle.commands.proofs.judge.Statement as stated
+use Rattle.commands.proofs.judge.Code as code
+use Rattle.commands.proofs.judge.Code.Mir as piece
 
 module _ {M : Type 1} (𝓤 : URA M) (H : Heap 𝓤) (A : Atoms 𝓤) (W : Given 𝓤 H A) (mem : Memory → SProp 𝓤) (run : Routine → Fun 𝓤) (κ κ′ : Lft) (q q′ : Share) (x : RefT (List ℕ)) (b o : ℕ) (γ : GName) (ys : List Record) (command element ddi : ℕ) (value : ℤ) where
   abbrev p : List ℕ
@@ -189,6 +189,6 @@ judge-spec 𝓤 H 𝓜 𝓖 𝓡 =
     entered 𝓤 H (tripleOf 𝓤 H (𝓖 .A) judge.signature (judge.spec 𝓤 H (𝓖 .A) (𝓜 .mem) (𝓡 .run)))
     (tables 𝓤 H 𝓜 𝓡 code.env .C) (tables 𝓤 H 𝓜 𝓡 code.env .Λ) #judge code.function (code.unfolded 𝓤 H 𝓜 𝓡)
     (meets 𝓤 H (𝓖 .A) (givenOf 𝓤 H 𝓜 𝓖) (𝓜 .mem) (𝓡 .run) (tablesOf 𝓤 H 𝓜 (tables 𝓤 H 𝓜 𝓡 code.env))
-    (cited 𝓤 H (Judging 𝓤 H (𝓖 .A) (𝓜 .mem) (𝓡 .run) (AtMost 𝓤 1536)) 𝓜 𝓡 code.env #short short-def.routine code.calls-device-pool·judge-short (short-thm.met 𝓤 H 𝓜 𝓖 𝓡))
-    (cited 𝓤 H (Judging 𝓤 H (𝓖 .A) (𝓜 .mem) (𝓡 .run) (AtMost 𝓤 12288)) 𝓜 𝓡 code.env #middle middle-def.routine code.calls-device-pool·judge-middle (middle-thm.met 𝓤 H 𝓜 𝓖 𝓡))
-    (cited 𝓤 H (Judging 𝓤 H (𝓖 .A) (𝓜 .mem) (𝓡 .run) (Any 𝓤)) 𝓜 𝓡 code.env #long long-def.routine code.calls-device-pool·judge-long (long-thm.met 𝓤 H 𝓜 𝓖 𝓡)))
+    (cited 𝓤 H (Judging 𝓤 H (𝓖 .A) (𝓜 .mem) (𝓡 .run) (AtMost 𝓤 1536)) 𝓜 𝓡 code.env #short short-def.routine code.calls-commands·judge-short (short-thm.met 𝓤 H 𝓜 𝓖 𝓡))
+    (cited 𝓤 H (Judging 𝓤 H (𝓖 .A) (𝓜 .mem) (𝓡 .run) (AtMost 𝓤 12288)) 𝓜 𝓡 code.env #middle middle-def.routine code.calls-commands·judge-middle (middle-thm.met 𝓤 H 𝓜 𝓖 𝓡))
+    (cited 𝓤 H (Judging 𝓤 H (𝓖 .A) (𝓜 .mem) (𝓡 .run) (Any 𝓤)) 𝓜 𝓡 code.env #long long-def.routine code.calls-commands·judge-long (long-thm.met 𝓤 H 𝓜 𝓖 𝓡)))

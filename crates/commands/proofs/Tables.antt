@@ -14,8 +14,8 @@ use Rattle.working_table.specs.declared.Record.{Record}
 use Rattle.working_table.proofs.Gathered.{gathered-none}
 use Rattle.checker.specs.Checking.{countOf}
 use Rattle.checker.proofs.Tables.{check-gathers}
-use Rattle.device_pool.specs.Tables.{judgedRecords}
-use Rattle.device_pool.specs.Parts.{judgedCount}
+use Rattle.commands.specs.Tables.{judgedRecords}
+use Rattle.commands.specs.Parts.{judgedCount}
 
 -- for a command the table stays where the pool is not looked at, and is else as reading leaves it
 judged-stays : (p : List ℕ) (table : List Record) (element : ℕ) → 4095 < element → table ≡ judgedRecords p table element

@@ -1,13 +1,13 @@
--- `device_pool::judge_by` meets its contract. Assumes nothing.
+-- `commands::judge_by` meets its contract. Assumes nothing.
 use mathlib.Core.Path.{_∙_}
 use native.Mathlib.Omega.{arith}
 use mir.Syntax.{w32}
 use mir.ValLaws.{toZ-ofZ}
 use Rattle.judging.proofs.Erring.{too-large}
-use Rattle.device_pool.proofs.Tables.{counted-none, counted-read}
+use Rattle.commands.proofs.Tables.{counted-none, counted-read}
 use borrow.Author.Needs.{needs}
-use Rattle.device_pool.proofs.judge_by.Statement.{statement}
-use Rattle.device_pool.proofs.judge_by.Tie as tie
+use Rattle.commands.proofs.judge_by.Statement.{statement}
+use Rattle.commands.proofs.judge_by.Tie as tie
 
 returns : tie.Need-returns
 returns c =

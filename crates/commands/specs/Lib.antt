@@ -1,0 +1,3 @@
+-- What the contracts of `commands` cite.
+pub mod Tables
+pub mod Parts

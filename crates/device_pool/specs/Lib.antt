@@ -1,3 +1,0 @@
--- What the contracts of `device_pool` cite.
-pub mod Tables
-pub mod Parts
