@@ -1,5 +1,4 @@
 -- What belongs to no one function.
-pub mod Looking
 pub mod Whole
 pub mod Lists
 pub mod Tries

@@ -2,69 +2,18 @@
 // most of the time.
 use leading::Tried;
 ghost use mathlib.Core.Path.{_≡_};
-ghost use mathlib.Core.Bool.{true, cond};
+ghost use mathlib.Core.Bool.{true};
 ghost use Prim.Native.Nat.{_*_, _≤_, _<_};
-ghost use lib.Dec.{eqb};
 ghost use lib.ListN.{length};
-ghost use Rattle.records.specs.Fields.{elementOf};
 ghost use Rattle.pool.specs.Reading.{width};
-ghost use Rattle.faults.specs.Emission.{Emits, Puts};
+ghost use Rattle.faults.specs.Emission.{Emits};
 ghost use Rattle.naming.specs.Records.{kindAt};
-ghost use Rattle.naming.specs.Naming.{firstOf, typeKey};
+ghost use Rattle.naming.specs.Naming.{firstOf};
 ghost use Rattle.naming.specs.Lists.{shown, Blank, Roomy};
-ghost use Rattle.rules.specs.Table.{poolRows, breachesIn};
+ghost use Rattle.rules.specs.Table.{breachesIn};
 ghost use Rattle.breaches.specs.Lists.{Prepared, Lent};
 ghost use Rattle.leading.specs.Leading.{Led};
 ghost use Rattle.counting.specs.Trying.{Completes, Told};
-
-// The number of the first device, 0 for none.
-fn first_device(table: &[u16], count: usize) -> u16
-    requires { ⌜ (count * width ≤ length (now table)) × (count ≤ 8192) ⌝ }
-    ensures { λ r. ⌜ r ≡ firstOf (kindAt (shown (now (table .entry)) count)) 1 count ⌝ }
-{
-    let mut i: usize = 0;
-    while i < count {
-        if table[i * 4 + 2] == 1 {
-            return (i + 1) as u16;
-        }
-        i += 1;
-    }
-    0
-}
-
-// Whether a record is a device element of type 1.
-fn is_machine(p: &[u8], at: u16, kind: u16) -> bool
-    ensures { λ r. ⌜ r ≡ eqb (cond (eqb kind 2) (elementOf (now (p .entry)) at .«element_type») 256) 1 ⌝ }
-{
-    if kind == 2 {
-        return records::view::device_element(p, at).element_type == 1;
-    }
-    false
-}
-
-// Whether no record is a device element of type 1.
-fn lacks_machine(p: &[u8], table: &[u16], count: usize) -> bool
-    requires { ⌜ (count * width ≤ length (now table)) × (count ≤ 8192) ⌝ }
-    ensures { λ r. ⌜ r ≡ eqb (firstOf (typeKey (now (p .entry)) (shown (now (table .entry)) count)) 1 count) 0 ⌝ }
-{
-    let mut i: usize = 0;
-    while i < count {
-        if is_machine(p, table[i * 4], table[i * 4 + 2]) {
-            return false;
-        }
-        i += 1;
-    }
-    true
-}
-
-// Rules 10 and 11, of the whole pool.
-fn put_pool(p: &[u8], table: &[u16], count: usize, device: u16, faults: &mut [u16]) -> usize
-    requires { ⌜ (count * width ≤ length (now table)) × (count ≤ 8192) × (device ≡ firstOf (kindAt (shown (now table) count)) 1 count) ⌝ }
-    ensures { λ r. ⌜ Puts 0 (poolRows (now (p .entry)) (shown (now (table .entry)) count)) (now (faults .entry)) 0 (now (faults .exit)) r × (r ≤ 2) ⌝ }
-{
-    let n = faults::put_if(device == 0, faults, 0, 0, 10, 1);
-    faults::put_if(lacks_machine(p, table, count), faults, n, 0, 11, 1)
-}
 
 // The faults of a pool that has been prepared, in order, from a record on: the records before have none. The first device's
 // number is given, 0 where there is none. Behind a record with a fault most often comes another one: then no time goes into a look
@@ -346,8 +295,8 @@ pub fn count_faults(p: &[u8], table: &[u16], count: usize, faults: &mut [u16]) -
     requires { ⌜ (count * width ≤ length (now table)) × (count ≤ 8192) × Roomy (now p) (shown (now table) count) 32768 ⌝ }
     ensures { λ r. ⌜ Emits (now (faults .entry)) 0 (breachesIn (now (p .entry)) (shown (now (table .entry)) count)) (now (faults .exit)) r ⌝ }
 {
-    let device = first_device(table, count);
-    let start = put_pool(p, table, count, device, faults);
+    let device = fields::whole::first_device(table, count);
+    let start = fields::whole::put_pool(p, table, count, device, faults);
     if 0 < start {
         return count_rest(p, table, count, device, 0, faults, start);
     }

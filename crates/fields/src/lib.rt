@@ -1,4 +1,6 @@
 // The rules that look at one record alone: IDs, texts and ranges.
+pub mod whole;
+
 use records::Device;
 use records::DeviceElement;
 use records::ProcessData;

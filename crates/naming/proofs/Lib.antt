@@ -8,3 +8,4 @@ pub mod Entering
 pub mod Jumping
 pub mod Tabled
 pub mod Lists
+pub mod Looking

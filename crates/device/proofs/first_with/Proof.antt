@@ -3,7 +3,7 @@ use mathlib.Core.Path.{sym}
 use Prim.Native.Nat.{_-_, _≤_}
 use native.Mathlib.Omega.{arith}
 use Rattle.naming.proofs.First.{Without, to-none}
-use Rattle.counting.proofs.Looking.{none-yet, none-more, first-found}
+use Rattle.naming.proofs.Looking.{none-yet, none-more, first-found}
 use Rattle.device.specs.Parts.{columnIn}
 use Rattle.device.proofs.first_with.Statement.{statement}
 use Rattle.device.proofs.first_with.Tie as tie

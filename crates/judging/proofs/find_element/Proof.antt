@@ -5,7 +5,7 @@ use native.Mathlib.Omega.{arith}
 use borrow.Author.Tests.{eqb-true, eqb-false}
 use Rattle.naming.specs.Steps.{numberIn}
 use Rattle.naming.proofs.First.{Without, to-none}
-use Rattle.counting.proofs.Looking.{none-yet, none-more, first-found}
+use Rattle.naming.proofs.Looking.{none-yet, none-more, first-found}
 use Rattle.judging.proofs.find_element.Statement.{statement}
 use Rattle.judging.proofs.find_element.Tie as tie
 

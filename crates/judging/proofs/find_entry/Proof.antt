@@ -6,7 +6,7 @@ use native.Mathlib.Numerals.{add-one}
 use native.Mathlib.Omega.{arith}
 use Rattle.naming.specs.Lists.{tagIn, namedIn}
 use Rattle.naming.proofs.First.{Without}
-use Rattle.counting.proofs.Looking.{none-yet, none-more}
+use Rattle.naming.proofs.Looking.{none-yet, none-more}
 use Rattle.judging.specs.Parts.{entryIn}
 use Rattle.judging.proofs.Found.{entry-found, entry-none}
 use Rattle.judging.proofs.find_entry.Statement.{statement}

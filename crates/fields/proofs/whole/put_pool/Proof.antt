@@ -1,10 +1,10 @@
--- `counting::put_pool` meets its contract. Assumes nothing.
+-- `fields::whole::put_pool` meets its contract. Assumes nothing.
 use native.Mathlib.Omega.{arith}
 use Rattle.faults.proofs.Emission.{puts-then}
 use Rattle.naming.proofs.Shown.{shown-long}
 use borrow.Author.Needs.{needs}
-use Rattle.counting.proofs.put_pool.Statement.{statement}
-use Rattle.counting.proofs.put_pool.Tie as tie
+use Rattle.fields.proofs.whole.put_pool.Statement.{statement}
+use Rattle.fields.proofs.whole.put_pool.Tie as tie
 
 put-if-requires : tie.Need-put-if-requires
 put-if-requires c κs = search needs

@@ -1,4 +1,4 @@
--- `counting::first_device` meets its contract. Assumes nothing.
+-- `fields::whole::first_device` meets its contract. Assumes nothing.
 use mathlib.Core.Path.{sym, _∙_}
 use Prim.Native.Nat.{_-_, _≤_}
 use native.Mathlib.Omega.{arith}
@@ -6,9 +6,9 @@ use Rattle.naming.specs.Records.{kindAt}
 use Rattle.naming.specs.Lists.{shown}
 use Rattle.naming.proofs.First.{Without, to-none}
 use Rattle.naming.proofs.Tabled.{kinds}
-use Rattle.counting.proofs.Looking.{none-yet, none-more, first-found}
-use Rattle.counting.proofs.first_device.Statement.{statement}
-use Rattle.counting.proofs.first_device.Tie as tie
+use Rattle.naming.proofs.Looking.{none-yet, none-more, first-found}
+use Rattle.fields.proofs.whole.first_device.Statement.{statement}
+use Rattle.fields.proofs.whole.first_device.Tie as tie
 
 abbrev Inv-loop : tie.InvT-loop
 Inv-loop table count i₀ i = (i ≤ count) × Without (kindAt (shown table count)) 1 i

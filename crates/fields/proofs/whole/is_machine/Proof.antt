@@ -1,9 +1,9 @@
--- `counting::is_machine` meets its contract. Assumes nothing.
+-- `fields::whole::is_machine` meets its contract. Assumes nothing.
 use borrow.Author.Tests.{ne-eqb}
 use mathlib.Core.Path.{refl}
 use borrow.Author.Needs.{needs}
-use Rattle.counting.proofs.is_machine.Statement.{statement}
-use Rattle.counting.proofs.is_machine.Tie as tie
+use Rattle.fields.proofs.whole.is_machine.Statement.{statement}
+use Rattle.fields.proofs.whole.is_machine.Tie as tie
 
 device-element-requires : tie.Need-device-element-requires
 device-element-requires c κs = search needs

@@ -1,4 +1,4 @@
--- `counting::lacks_machine` meets its contract. Assumes nothing.
+-- `fields::whole::lacks_machine` meets its contract. Assumes nothing.
 use mathlib.Core.Path.{_≡_, sym, _∙_}
 use Prim.Native.Nat.{ℕ, _-_, _≤_}
 use native.Mathlib.Omega.{arith}
@@ -7,9 +7,9 @@ use lib.Dec.{eqb}
 use Rattle.naming.specs.Naming.{typeKey}
 use Rattle.naming.specs.Lists.{shown}
 use Rattle.naming.proofs.First.{Without, to-none}
-use Rattle.counting.proofs.Looking.{none-yet, none-more, first-there, type-is}
-use Rattle.counting.proofs.lacks_machine.Statement.{statement}
-use Rattle.counting.proofs.lacks_machine.Tie as tie
+use Rattle.naming.proofs.Looking.{none-yet, none-more, first-there, type-is}
+use Rattle.fields.proofs.whole.lacks_machine.Statement.{statement}
+use Rattle.fields.proofs.whole.lacks_machine.Tie as tie
 
 abbrev Inv-loop : tie.InvT-loop
 Inv-loop p table count i₀ i = (i ≤ count) × Without (typeKey p (shown table count)) 1 i
