@@ -7,8 +7,8 @@ use native.Mathlib.Omega.{arith}
 use borrow.Author.Tests.{eq-eqb, ne-eqb}
 use lib.Dec.{eqb}
 use lib.ListN.{length, getD}
-use Rattle.records.specs.Fields.{elementOf}
 use Rattle.records.specs.declared.DeviceElement.{DeviceElement}
+use Rattle.views.specs.Fields.{elementOf}
 use Rattle.faults.specs.Rows.{Row, AllClear}
 use Rattle.pool.specs.Reading.{width}
 use Rattle.naming.specs.Records.{startAt, idAt}

@@ -9,8 +9,8 @@ use native.Mathlib.Omega.{arith}
 use borrow.Author.Tests.{ne-eqb}
 use lib.Dec.{eqb}
 use lib.ListN.{length, getD}
-use Rattle.records.specs.Fields.{elementOf, entryOf}
 use Rattle.records.specs.declared.DeviceElement.{DeviceElement}
+use Rattle.views.specs.Fields.{elementOf, entryOf}
 use Rattle.faults.specs.Rows.{Row, AllAlike}
 use Rattle.faults.specs.Emission.{Puts}
 use Rattle.faults.proofs.Emission.{alike-one, alike-many, puts-then, puts-alike}

@@ -5,7 +5,7 @@ ghost use mathlib.Core.Bool.{true};
 ghost use mathlib.Core.List.{_++_};
 ghost use Prim.Native.Nat.{ℕ, _+_, _≤_, _<_};
 ghost use lib.ListN.{length, getD};
-ghost use Rattle.records.specs.Fields.{elementOf, processDataOf, propertyOf, presentationOf};
+ghost use Rattle.views.specs.Fields.{elementOf, processDataOf, propertyOf, presentationOf};
 ghost use Rattle.faults.specs.Rows.{AllClear};
 ghost use Rattle.naming.specs.Records.{startAt, idAt};
 ghost use Rattle.naming.specs.Naming.{tagOf};
@@ -26,7 +26,7 @@ fn is_clean_data(p: &[u8], table: &[u16], count: usize, index: &[u16], at: u16) 
     requires { ⌜ Indexed (idAt (shown (now table) count)) count (now index) ⌝ }
     ensures { λ r. ⌜ (r ≡ true → AllClear (dataRows (now (p .entry)) (processDataOf (now (p .entry)) at) ++ presentedRows (shown (now (table .entry)) count) (processDataOf (now (p .entry)) at .presentation))) ⌝ }
 {
-    let d = records::view::process_data(p, at);
+    let d = views::process_data(p, at);
     // Of the properties up to 7, 6 and 7 are settable and control source.
     ((d.properties < 6) & (d.triggers < 32))
         & (is_presented(table, count, index, d.presentation)
@@ -37,7 +37,7 @@ fn is_clean_property(p: &[u8], table: &[u16], count: usize, index: &[u16], at: u
     requires { ⌜ Indexed (idAt (shown (now table) count)) count (now index) ⌝ }
     ensures { λ r. ⌜ (r ≡ true → AllClear (propertyRows (now (p .entry)) (propertyOf (now (p .entry)) at) ++ presentedRows (shown (now (table .entry)) count) (propertyOf (now (p .entry)) at .presentation))) ⌝ }
 {
-    let d = records::view::property(p, at);
+    let d = views::property(p, at);
     is_presented(table, count, index, d.presentation)
         & text::is_sound_in(p, d.designator.from, d.designator.to)
 }
@@ -45,7 +45,7 @@ fn is_clean_property(p: &[u8], table: &[u16], count: usize, index: &[u16], at: u
 fn is_clean_value(p: &[u8], at: u16) -> bool
     ensures { λ r. ⌜ (r ≡ true → AllClear (valueRows (now (p .entry)) (presentationOf (now (p .entry)) at))) ⌝ }
 {
-    let v = records::view::value_presentation(p, at);
+    let v = views::value_presentation(p, at);
     ((0x322BCC77 <= v.scale) & (v.scale <= 0x4CBEBC20))
         & ((v.decimals < 8) & text::is_sound_in(p, v.unit.from, v.unit.to))
 }
@@ -67,7 +67,7 @@ fn is_clean_list(
 {
     let mut m: usize = 0;
     while m < size {
-        let named = naming::named_at(index, records::view::entry(p, at, m as u16));
+        let named = naming::named_at(index, views::entry(p, at, m as u16));
         let tag = elements::tag_at(p, table, named);
         let place = tag % 1024;
         if (tag == 0) | (seen[place] == number) {
@@ -119,7 +119,7 @@ fn is_clean_element(
     ensures { λ r. ⌜ (r ≡ true → AllClear (elementRows (now (p .entry)) (shown (now (table .entry)) count) i (elementOf (now (p .entry)) (startAt (shown (now (table .entry)) count) i)))) ⌝ }
 {
     let at = table[i * 4];
-    let e = records::view::device_element(p, at);
+    let e = views::device_element(p, at);
     let size = e.entries as usize;
     if !is_clean_alone(p, table, index, numbers, ups, i, e) {
         return false;

@@ -5,7 +5,7 @@ ghost use mathlib.Core.Bool.{true};
 ghost use mathlib.Core.List.{[], _∷_};
 ghost use Prim.Native.Nat.{ℕ, suc, _+_, _*_, _≤_, _<_, _^_};
 ghost use lib.ListN.{length};
-ghost use Rattle.records.specs.Fields.{elementOf, processDataOf, propertyOf};
+ghost use Rattle.views.specs.Fields.{elementOf, processDataOf, propertyOf};
 ghost use Rattle.faults.specs.Emission.{Puts};
 ghost use Rattle.pool.specs.Reading.{width};
 ghost use Rattle.naming.specs.Records.{startAt, idAt, kindAt};
@@ -46,7 +46,7 @@ fn put_data(
     requires { ⌜ (count * width ≤ length (now table)) × Indexed (idAt (shown (now table) count)) count (now index) × (n < 2 ^ 39) ⌝ }
     ensures { λ r. ⌜ Puts number (dataRows (now (p .entry)) (processDataOf (now (p .entry)) at) ++ presentedRows (shown (now (table .entry)) count) (processDataOf (now (p .entry)) at .presentation)) (now (faults .entry)) n (now (faults .exit)) r × (r ≤ n + 6) ⌝ }
 {
-    let d = records::view::process_data(p, at);
+    let d = views::process_data(p, at);
     let presentation = d.presentation;
     let own = fields::put_data(p, d, number, faults, n);
     put_presented(table, count, index, presentation, number, faults, own)
@@ -65,7 +65,7 @@ fn put_property(
     requires { ⌜ (count * width ≤ length (now table)) × Indexed (idAt (shown (now table) count)) count (now index) × (n < 2 ^ 39) ⌝ }
     ensures { λ r. ⌜ Puts number (propertyRows (now (p .entry)) (propertyOf (now (p .entry)) at) ++ presentedRows (shown (now (table .entry)) count) (propertyOf (now (p .entry)) at .presentation)) (now (faults .entry)) n (now (faults .exit)) r × (r ≤ n + 3) ⌝ }
 {
-    let d = records::view::property(p, at);
+    let d = views::property(p, at);
     let presentation = d.presentation;
     let own = fields::put_property(p, d, number, faults, n);
     put_presented(table, count, index, presentation, number, faults, own)
@@ -91,7 +91,7 @@ fn put_element(
 {
     let at = table[i * 4];
     let number = (i + 1) as u16;
-    let e = records::view::device_element(p, at);
+    let e = views::device_element(p, at);
     let size = e.entries as usize;
     let parent = naming::named_at(index, e.parent);
     let again = naming::number_at(numbers, e.number as usize) != number;
@@ -142,7 +142,7 @@ fn put_faults(
     if kind == 1 {
         return fields::put_device(
             p,
-            records::view::device(p, at),
+            views::device(p, at),
             device != number,
             number,
             faults,
@@ -172,13 +172,7 @@ fn put_faults(
         return put_property(p, table, count, index, at, number, faults, own);
     }
     if kind == 5 {
-        return fields::put_value(
-            p,
-            records::view::value_presentation(p, at),
-            number,
-            faults,
-            own,
-        );
+        return fields::put_value(p, views::value_presentation(p, at), number, faults, own);
     }
     own
 }

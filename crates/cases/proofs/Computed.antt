@@ -3,7 +3,8 @@ use mathlib.Core.Path.{refl}
 use Rattle.wire.specs.Bytes.{leOf, numberAt, signedOf}
 use Rattle.records.specs.Layout.{mark, layout, markOf}
 use Rattle.records.specs.Extents.{fieldEnd, extentOf}
-use Rattle.records.specs.Fields.{fieldAt, idOf, deviceOf, elementOf, entryOf, processDataOf, propertyOf, presentationOf}
+use Rattle.records.specs.Places.{fieldAt, idOf}
+use Rattle.views.specs.Fields.{deviceOf, elementOf, entryOf, processDataOf, propertyOf, presentationOf}
 use Rattle.pool.specs.Reading.{scanFrom, scanOf, readOf}
 use Rattle.text.specs.Octets.{width}
 use Rattle.text.specs.Characters.{charactersIn}

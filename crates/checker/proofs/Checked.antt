@@ -11,12 +11,13 @@ use lib.ListN.{length, getD}
 use lib.Seq.{sets, length-sets}
 use Rattle.records.specs.Layout.{layout, markNumber, markOf, three}
 use Rattle.records.specs.Extents.{extentOf, markedEnd}
-use Rattle.records.specs.Fields.{fieldAt, elementOf}
+use Rattle.records.specs.Places.{fieldAt}
 use Rattle.records.specs.declared.Kind.the-variants.{Dvc, Det, Dpd, Dpt, Dvp}
 use Rattle.records.specs.declared.Mark.{Mark}
 use Rattle.records.specs.declared.Mark.the-variants.{Of, Unknown}
 use Rattle.records.specs.declared.Extent.the-variants.{Ends, Cut}
 use Rattle.records.proofs.Range.{cut-ends, guarded, fields-end}
+use Rattle.views.specs.Fields.{elementOf}
 use Rattle.pool.specs.Answer.{Answer, answer}
 use Rattle.pool.specs.Reading.{Entry, width, flat, scanOf, entriesIn, readOf}
 use Rattle.pool.specs.Walk.{Reaches, Listed}

@@ -8,7 +8,7 @@ use lib.Seq.{take-at, take-append-le, drop-append-le, drop-append-add}
 use Rattle.wire.specs.Bytes.{leOf, numberAt}
 use Rattle.records.specs.Layout.{mark, markOf, kindNumber, three}
 use Rattle.records.specs.Extents.{extentOf}
-use Rattle.records.specs.Fields.{idOf}
+use Rattle.records.specs.Places.{idOf}
 use Rattle.records.specs.declared.Mark.the-variants.{Of}
 use Rattle.records.specs.declared.Extent.{Extent}
 use Rattle.records.specs.declared.Extent.the-variants.{NoMark, Cut, LengthOver}

@@ -5,8 +5,8 @@ use Prim.Native.Nat.{ℕ, zero, suc, _+_, _-_, _*_, _<_, _≤_}
 use native.Mathlib.Omega.{arith}
 use borrow.Author.Tests.{ne-eqb}
 use lib.ListN.{length, getD, replicate}
-use Rattle.records.specs.Fields.{partOf, deviceOf}
 use Rattle.records.specs.declared.Span.{Span}
+use Rattle.views.specs.Fields.{partOf, deviceOf}
 use Rattle.pool.specs.Answer.{Answer, answer}
 use Rattle.pool.specs.Reading.{Entry, width, scanOf, entriesIn, readOf}
 use Rattle.pool.proofs.Steps.{Remaining}

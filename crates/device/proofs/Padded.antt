@@ -9,9 +9,10 @@ use lib.ListN.{length, getD, take, drop, replicate, length-replicate}
 use lib.Seq.{sets-eq}
 use Rattle.wire.specs.Bytes.{laid}
 use Rattle.wire.proofs.Laid.{laid-fits}
-use Rattle.records.specs.Fields.{fieldAt, partOf, deviceOf}
+use Rattle.records.specs.Places.{fieldAt}
 use Rattle.records.specs.declared.Kind.the-variants.{Dvc}
 use Rattle.records.specs.declared.Span.{Span}
+use Rattle.views.specs.Fields.{partOf, deviceOf}
 use Rattle.device.specs.Queries.{padded}
 
 zeros-left : (w n : ℕ) → drop {A = ℕ} n (replicate w 0) ≡ replicate (w - n) 0

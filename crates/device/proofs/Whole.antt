@@ -10,13 +10,14 @@ use lib.Dec.{leb, ltb}
 use lib.ListN.{length, getD, take}
 use Rattle.records.specs.Layout.{Field, text, layout, markNumber, markOf, three}
 use Rattle.records.specs.Extents.{pick, fieldEnd, fieldsEnd, markedEnd, extentOf}
-use Rattle.records.specs.Fields.{behind, behindAll, fieldAt, deviceOf, elementOf, processDataOf, propertyOf, presentationOf}
+use Rattle.records.specs.Places.{behind, behindAll, fieldAt}
 use Rattle.records.specs.declared.Kind.the-variants.{Dvc, Det, Dpd, Dpt, Dvp}
 use Rattle.records.specs.declared.Mark.{Mark}
 use Rattle.records.specs.declared.Mark.the-variants.{Of, Unknown}
 use Rattle.records.specs.declared.Extent.{Extent}
 use Rattle.records.specs.declared.Extent.the-variants.{Ends, NoMark, Cut, LengthOver}
 use Rattle.records.proofs.Range.{cut-ends, unmarked-ends, over-ends, guarded, stays, field-ends, fields-end}
+use Rattle.views.specs.Fields.{deviceOf, elementOf, processDataOf, propertyOf, presentationOf}
 use Rattle.pool.specs.Reading.{Entry}
 use Rattle.pool.proofs.Steps.{Remaining, Next, next-of, none-left}
 use Rattle.naming.specs.Records.{startAt, kindAt}

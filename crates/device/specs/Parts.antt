@@ -3,8 +3,8 @@ use Prim.Native.Nat.{ℕ, _+_, _*_}
 use mathlib.Core.List.{List}
 use lib.ListN.{length, getD}
 use mathlib.Core.Path.{_≡_}
-use Rattle.records.specs.Fields.{partOf}
 use Rattle.records.specs.declared.Device.{Device}
+use Rattle.views.specs.Fields.{partOf}
 use Rattle.pool.specs.Reading.{width}
 use Rattle.pool.specs.Walk.{Reaches, Listed}
 use Rattle.checker.specs.Checking.{verdictOf, recordsIn, checkOf, countOf}

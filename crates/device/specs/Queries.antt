@@ -6,9 +6,9 @@ use mathlib.Core.Bool.{Bool, true, false, cond}
 use mathlib.Core.List.{List, [], _++_}
 use lib.Dec.{eqb}
 use lib.ListN.{length, replicate}
-use Rattle.records.specs.Fields.{partOf, deviceOf, elementOf, processDataOf, propertyOf, presentationOf}
 use Rattle.records.specs.declared.Span.{Span}
 use Rattle.records.specs.declared.Device.{Device}
+use Rattle.views.specs.Fields.{partOf, deviceOf, elementOf, processDataOf, propertyOf, presentationOf}
 use Rattle.pool.specs.Answer.{Answer}
 use Rattle.pool.specs.Reading.{Entry, scanOf, entriesIn}
 use Rattle.naming.specs.Records.{startAt, idAt, kindAt}

@@ -5,7 +5,7 @@ use records::Span;
 ghost use mathlib.Core.Path.{_≡_};
 ghost use Prim.Native.Nat.{_*_, _≤_, _<_};
 ghost use lib.ListN.{length};
-ghost use Rattle.records.specs.Fields.{partOf, deviceOf};
+ghost use Rattle.views.specs.Fields.{partOf, deviceOf};
 ghost use Rattle.pool.specs.Reading.{width};
 ghost use Rattle.naming.specs.Naming.{firstOf};
 ghost use Rattle.checker.specs.Checking.{verdictOf};
@@ -63,19 +63,19 @@ fn text_in(p: &[u8], kind: u16, at: u16) -> Span
     ensures { λ r. ⌜ r ≡ textIn (now (p .entry)) kind at ⌝ }
 {
     if kind == 1 {
-        return records::view::device(p, at).designator;
+        return views::device(p, at).designator;
     }
     if kind == 2 {
-        return records::view::device_element(p, at).designator;
+        return views::device_element(p, at).designator;
     }
     if kind == 3 {
-        return records::view::process_data(p, at).designator;
+        return views::process_data(p, at).designator;
     }
     if kind == 4 {
-        return records::view::property(p, at).designator;
+        return views::property(p, at).designator;
     }
     if kind == 5 {
-        return records::view::value_presentation(p, at).unit;
+        return views::value_presentation(p, at).unit;
     }
     Span { from: 0, to: 0 }
 }
@@ -118,7 +118,7 @@ pub fn text_at<'a>(p: &'a [u8], place: Place, number: &mut u32) -> &'a [u8]
     *number = place.number;
     let from = place.from;
     let to = place.to;
-    records::view::part(p, Span { from, to })
+    views::part(p, Span { from, to })
 }
 
 // The labels of the device that starts at a place.
@@ -126,16 +126,12 @@ fn labels_at(p: &[u8], at: u16) -> DeviceLabels
     requires { ⌜ length (partOf (now p) (deviceOf (now p) at .extended)) ≤ 32 ⌝ }
     ensures { λ r. ⌜ LabelledBy (now (p .entry)) (deviceOf (now (p .entry)) at) r ⌝ }
 {
-    let device = records::view::device(p, at);
+    let device = views::device(p, at);
     let mut structure = [0u8; 7];
-    wire::copy(records::view::part(p, device.structure), &mut structure, 0);
+    wire::copy(views::part(p, device.structure), &mut structure, 0);
     let mut localization = [0u8; 7];
-    wire::copy(
-        records::view::part(p, device.localization),
-        &mut localization,
-        0,
-    );
-    let text = records::view::part(p, device.extended);
+    wire::copy(views::part(p, device.localization), &mut localization, 0);
+    let text = views::part(p, device.extended);
     let mut extended = [0u8; 32];
     wire::copy(text, &mut extended, 0);
     DeviceLabels {

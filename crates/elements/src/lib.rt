@@ -5,7 +5,7 @@ ghost use mathlib.Core.List.{[], _∷_, _++_};
 ghost use Prim.Native.Nat.{ℕ, _+_, _≤_, _<_, _^_};
 ghost use lib.Dec.{eqb};
 ghost use lib.ListN.{length, getD};
-ghost use Rattle.records.specs.Fields.{entryOf};
+ghost use Rattle.views.specs.Fields.{entryOf};
 ghost use Rattle.faults.specs.Rows.{one, many};
 ghost use Rattle.faults.specs.Emission.{Puts};
 ghost use Rattle.naming.specs.Naming.{isData};
@@ -39,7 +39,7 @@ fn put_missing(
     requires { ⌜ (size ≤ length (now list)) × (size ≤ 32768) × (count < 2 ^ 41) ⌝ }
     ensures { λ r. ⌜ Puts number (many 6 2 size (λ (m : ℕ). eqb (getD (now (list .exit)) m 0) 0) ∷ []) (now (faults .entry)) count (now (faults .exit)) r × ((m : ℕ) → m < size → getD (now (list .exit)) m 0 ≡ namedIn (now (index .entry)) (entryOf (now (p .entry)) at m)) × (r ≤ count + size) ⌝ }
 {
-    let from = records::view::entries_from(p, at);
+    let from = views::entries_from(p, at);
     let mut n = count;
     let mut m: usize = 0;
     while m < size {

@@ -9,9 +9,10 @@ use borrow.Author.Tests.{ne-eqb}
 use lib.Dec.{eqb}
 use lib.ListN.{length, getD}
 use Rattle.records.specs.Layout.{layout}
-use Rattle.records.specs.Fields.{fieldAt, deviceOf, elementOf, processDataOf, propertyOf, presentationOf}
+use Rattle.records.specs.Places.{fieldAt}
 use Rattle.records.specs.declared.Device.{Device}
 use Rattle.records.specs.declared.ValuePresentation.{ValuePresentation}
+use Rattle.views.specs.Fields.{deviceOf, elementOf, processDataOf, propertyOf, presentationOf}
 use Rattle.pool.specs.Reading.{Entry, width}
 use Rattle.naming.specs.Records.{startAt, kindAt}
 use Rattle.naming.specs.Naming.{firstOf}

@@ -12,12 +12,12 @@ use borrow.Author.Tests.{eq-eqb, ne-eqb, le-ltb, le-leb}
 use lib.Dec.{eqb}
 use lib.ListN.{length, getD, set}
 use lib.Seq.{getD-set-same, getD-set-other}
-use Rattle.records.specs.Fields.{partOf, elementOf}
 use Rattle.records.specs.declared.Span.{Span}
 use Rattle.records.specs.declared.DeviceElement.{DeviceElement}
 use Rattle.records.specs.declared.ProcessData.{ProcessData}
 use Rattle.records.specs.declared.Property.{Property}
 use Rattle.records.specs.declared.ValuePresentation.{ValuePresentation}
+use Rattle.views.specs.Fields.{partOf, elementOf}
 use Rattle.text.specs.Examined.{soundText}
 use Rattle.faults.specs.Rows.{AllClear}
 use Rattle.faults.proofs.Clearing.{clear-then}

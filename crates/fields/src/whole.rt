@@ -4,7 +4,7 @@ ghost use mathlib.Core.Bool.{cond};
 ghost use Prim.Native.Nat.{_*_, _≤_};
 ghost use lib.Dec.{eqb};
 ghost use lib.ListN.{length};
-ghost use Rattle.records.specs.Fields.{elementOf};
+ghost use Rattle.views.specs.Fields.{elementOf};
 ghost use Rattle.faults.specs.Emission.{Puts};
 ghost use Rattle.pool.specs.Reading.{width};
 ghost use Rattle.naming.specs.Records.{kindAt};
@@ -32,7 +32,7 @@ fn is_machine(p: &[u8], at: u16, kind: u16) -> bool
     ensures { λ r. ⌜ r ≡ eqb (cond (eqb kind 2) (elementOf (now (p .entry)) at .«element_type») 256) 1 ⌝ }
 {
     if kind == 2 {
-        return records::view::device_element(p, at).element_type == 1;
+        return views::device_element(p, at).element_type == 1;
     }
     false
 }

@@ -4,7 +4,7 @@ use mathlib.Core.List.{List}
 use Prim.Native.Nat.{ℕ, zero, suc, _-_, _*_, _≤_, _<_}
 use native.Mathlib.Omega.{arith}
 use lib.ListN.{length, getD}
-use Rattle.records.specs.Fields.{elementOf, entryOf}
+use Rattle.views.specs.Fields.{elementOf, entryOf}
 use Rattle.pool.specs.Reading.{Entry}
 use Rattle.naming.specs.Records.{idAt}
 use Rattle.naming.specs.Naming.{firstOf, numberKey, named, kindOf, tagOf}

@@ -4,8 +4,8 @@ use mathlib.Core.List.{List}
 use Prim.Native.Nat.{ℕ, suc, _+_, _<_}
 use native.Mathlib.Decide.{decLt}
 use native.Mathlib.Omega.{arith}
-use Rattle.records.specs.Fields.{elementOf}
 use Rattle.records.specs.declared.Kind.the-variants.{Det}
+use Rattle.views.specs.Fields.{elementOf}
 use Rattle.pool.specs.Reading.{scanOf, entriesIn}
 use Rattle.faults.specs.Faults.{fault}
 use Rattle.naming.specs.Records.{startAt}

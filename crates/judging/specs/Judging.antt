@@ -6,7 +6,7 @@ use lib.Dec.{eqb, ltb}
 use lib.IntN.{ℤ, pos}
 use lib.ListN.{length}
 use lib.Signed.{ltZ}
-use Rattle.records.specs.Fields.{elementOf, entryOf, processDataOf}
+use Rattle.views.specs.Fields.{elementOf, entryOf, processDataOf}
 use Rattle.pool.specs.Reading.{Entry, scanOf, entriesIn}
 use Rattle.naming.specs.Naming.{firstOf, numberKey, named, kindOf, tagOf}
 use Rattle.device.specs.Queries.{acceptance, startOf}

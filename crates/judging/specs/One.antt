@@ -4,7 +4,7 @@ use Prim.Native.Nat.{ℕ, suc, _<_}
 use mathlib.Core.Path.{_≡_}
 use mathlib.Core.List.{List}
 use lib.ListN.{length}
-use Rattle.records.specs.Fields.{elementOf, entryOf}
+use Rattle.views.specs.Fields.{elementOf, entryOf}
 use Rattle.pool.specs.Reading.{Entry, scanOf, entriesIn}
 use Rattle.naming.specs.Records.{startAt, kindAt}
 use Rattle.naming.specs.Naming.{named, tagOf}

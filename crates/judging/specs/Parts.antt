@@ -3,7 +3,7 @@ use Prim.Native.Nat.{ℕ, zero, suc, _*_}
 use mathlib.Core.Path.{_≡_}
 use mathlib.Core.List.{List}
 use lib.ListN.{getD}
-use Rattle.records.specs.Fields.{entryOf}
+use Rattle.views.specs.Fields.{entryOf}
 use Rattle.pool.specs.Reading.{Entry, width}
 use Rattle.naming.specs.Naming.{firstOf}
 use Rattle.naming.specs.Lists.{tagIn, namedIn}

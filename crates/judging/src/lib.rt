@@ -5,7 +5,7 @@ ghost use mathlib.Core.Bool.{cond};
 ghost use Prim.Native.Nat.{suc, _*_, _≤_};
 ghost use lib.Dec.{eqb};
 ghost use lib.ListN.{length};
-ghost use Rattle.records.specs.Fields.{elementOf};
+ghost use Rattle.views.specs.Fields.{elementOf};
 ghost use Rattle.pool.specs.Reading.{width};
 ghost use Rattle.naming.specs.Naming.{firstOf};
 ghost use Rattle.naming.specs.Lists.{shown};
@@ -52,7 +52,7 @@ fn is_numbered(p: &[u8], at: u16, kind: u16, element: u16) -> bool
     ensures { λ r. ⌜ r ≡ eqb (cond (eqb kind 2) (elementOf (now (p .entry)) at .number) 65536) element ⌝ }
 {
     if kind == 2 {
-        return records::view::device_element(p, at).number == element;
+        return views::device_element(p, at).number == element;
     }
     false
 }
@@ -78,7 +78,7 @@ fn find_entry(p: &[u8], table: &[u16], index: &[u16], at: u16, size: u16, ddi: u
 {
     let mut m: u16 = 0;
     while m < size {
-        let named = naming::named_at(index, records::view::entry(p, at, m));
+        let named = naming::named_at(index, views::entry(p, at, m));
         if elements::tag_at(p, table, named) == ddi as usize + 1 {
             return named;
         }
@@ -98,7 +98,7 @@ fn find_short(p: &[u8], table: &[u16], count: usize, at: u16, ddi: u16) -> Sough
     if !naming::index_ids(table, count, &mut index) {
         return Sought::Short;
     }
-    let element = records::view::device_element(p, at);
+    let element = views::device_element(p, at);
     Sought::Object(find_entry(p, table, &index, at, element.entries, ddi))
 }
 
@@ -111,7 +111,7 @@ fn find_middle(p: &[u8], table: &[u16], count: usize, at: u16, ddi: u16) -> Soug
     if !naming::index_ids(table, count, &mut index) {
         return Sought::Short;
     }
-    let element = records::view::device_element(p, at);
+    let element = views::device_element(p, at);
     Sought::Object(find_entry(p, table, &index, at, element.entries, ddi))
 }
 
@@ -122,7 +122,7 @@ fn find_long(p: &[u8], table: &[u16], count: usize, at: u16, ddi: u16) -> u16
 {
     let mut index = [0u16; 65536];
     naming::index_ids(table, count, &mut index);
-    let element = records::view::device_element(p, at);
+    let element = views::device_element(p, at);
     find_entry(p, table, &index, at, element.entries, ddi)
 }
 
@@ -147,7 +147,7 @@ fn bits_of(p: &[u8], kind: u16, at: u16) -> Bits
     ensures { λ r. ⌜ (r .properties ≡ propertiesIn (now (p .entry)) kind at) × (r .triggers ≡ triggersIn (now (p .entry)) kind at) ⌝ }
 {
     if kind == 3 {
-        let data = records::view::process_data(p, at);
+        let data = views::process_data(p, at);
         return Bits {
             properties: data.properties,
             triggers: data.triggers,

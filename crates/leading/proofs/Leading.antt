@@ -13,8 +13,8 @@ use borrow.Author.Tests.{eq-eqb, ne-eqb, eqb-true, ltb-true}
 use lib.Dec.{eqb, ltb}
 use lib.ListN.{length, getD}
 use Rattle.wire.specs.Bytes.{numberAt}
-use Rattle.records.specs.Fields.{elementOf}
 use Rattle.records.specs.declared.DeviceElement.{DeviceElement}
+use Rattle.views.specs.Fields.{elementOf}
 use Rattle.faults.specs.Faults.{Fault}
 use Rattle.faults.specs.Rows.{Row, inRows, AllClear}
 use Rattle.faults.specs.Emission.{Puts}

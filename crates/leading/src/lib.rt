@@ -11,7 +11,7 @@ ghost use Prim.Native.Nat.{ℕ, suc, _+_, _*_, _≤_, _<_};
 ghost use lib.Dec.{eqb};
 ghost use lib.ListN.{length, getD};
 ghost use Rattle.wire.specs.Bytes.{numberAt};
-ghost use Rattle.records.specs.Fields.{deviceOf, elementOf, entryOf, processDataOf, propertyOf, presentationOf};
+ghost use Rattle.views.specs.Fields.{deviceOf, elementOf, entryOf, processDataOf, propertyOf, presentationOf};
 ghost use Rattle.faults.specs.Rows.{AllClear};
 ghost use Rattle.pool.specs.Reading.{Entry, width};
 ghost use Rattle.naming.specs.Records.{startAt, kindAt};
@@ -48,7 +48,7 @@ fn is_clear_data(p: &[u8], table: &[u16], count: usize, links: &[u16], at: u16) 
     if p.len() < text_at + 3 + p[text_at] as usize {
         return false;
     }
-    let d = records::view::process_data(p, at);
+    let d = views::process_data(p, at);
     // Of the properties up to 7, 6 and 7 are settable and control source.
     ((d.properties < 6) & (d.triggers < 32))
         & (is_presented(table, count, links, d.presentation)
@@ -66,7 +66,7 @@ fn is_clear_property(p: &[u8], table: &[u16], count: usize, links: &[u16], at: u
     if p.len() < text_at + 3 + p[text_at] as usize {
         return false;
     }
-    let d = records::view::property(p, at);
+    let d = views::property(p, at);
     is_presented(table, count, links, d.presentation)
         & text::is_sound_in(p, d.designator.from, d.designator.to)
 }
@@ -77,7 +77,7 @@ fn is_clear_value(p: &[u8], at: u16) -> bool
     if p.len() < at as usize + 15 {
         return false;
     }
-    let v = records::view::value_presentation(p, at);
+    let v = views::value_presentation(p, at);
     ((0x322BCC77 <= v.scale) & (v.scale <= 0x4CBEBC20))
         & ((v.decimals < 8) & text::is_sound_in(p, v.unit.from, v.unit.to))
 }
@@ -89,7 +89,7 @@ fn is_clear_device(p: &[u8], at: u16, device: u16, i: usize) -> bool
 {
     let mut none = [0u16; 1];
     let number = (i + 1) as u16;
-    let d = records::view::device(p, at);
+    let d = views::device(p, at);
     fields::put_device(p, d, device != number, number, &mut none, 0) == 0
 }
 
@@ -197,11 +197,11 @@ fn is_clear_element(
     if p.len() < at as usize + 7 {
         return false;
     }
-    let from = records::view::entries_from(p, at);
+    let from = views::entries_from(p, at);
     if p.len() < from {
         return false;
     }
-    let e = records::view::device_element(p, at);
+    let e = views::device_element(p, at);
     let size = e.entries as usize;
     if p.len() < from + 2 * size {
         return false;

@@ -8,7 +8,7 @@ use native.Mathlib.Omega.{arith}
 use borrow.Author.Tests.{eq-eqb, ne-eqb}
 use lib.Dec.{eqb}
 use lib.ListN.{getD}
-use Rattle.records.specs.Fields.{elementOf}
+use Rattle.views.specs.Fields.{elementOf}
 use Rattle.pool.specs.Reading.{Entry}
 use Rattle.naming.specs.Records.{idAt}
 use Rattle.naming.specs.Naming.{named, kindOf, parentOf}

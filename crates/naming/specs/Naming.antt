@@ -5,7 +5,7 @@ use mathlib.Core.List.{List}
 use lib.Dec.{eqb}
 use lib.ListN.{length}
 use Rattle.wire.specs.Bytes.{numberAt}
-use Rattle.records.specs.Fields.{elementOf}
+use Rattle.views.specs.Fields.{elementOf}
 use Rattle.pool.specs.Reading.{Entry}
 use Rattle.naming.specs.Records.{startAt, idAt, kindAt}
 

@@ -5,7 +5,7 @@ use mathlib.Core.Bool.{cond}
 use mathlib.Core.List.{List}
 use lib.Dec.{eqb}
 use lib.ListN.{getD, set}
-use Rattle.records.specs.Fields.{elementOf}
+use Rattle.views.specs.Fields.{elementOf}
 use Rattle.naming.specs.Naming.{climb}
 use Rattle.naming.specs.Lists.{entryIn}
 

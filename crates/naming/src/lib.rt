@@ -110,7 +110,7 @@ fn enter_number(p: &[u8], table: &[u16], i: usize, room: usize, index: &mut [u16
     if table[i * 4 + 2] != 2 {
         return true;
     }
-    let element = records::view::device_element(p, table[i * 4]);
+    let element = views::device_element(p, table[i * 4]);
     if index.len() <= element.number as usize {
         return false;
     }
@@ -183,7 +183,7 @@ fn parent_at(p: &[u8], table: &[u16], count: usize, index: &[u16], i: usize) -> 
     if table[i * 4 + 2] != 2 {
         return 0;
     }
-    let element = records::view::device_element(p, table[i * 4]);
+    let element = views::device_element(p, table[i * 4]);
     let parent = named_at(index, element.parent);
     if kind_at(table, parent) == 2 {
         return parent;

@@ -8,7 +8,7 @@ use lib.ListN.{length}
 use lib.Seq.{sets, length-sets}
 use Rattle.records.specs.Layout.{markNumber, markOf, three}
 use Rattle.records.specs.Extents.{extentOf}
-use Rattle.records.specs.Fields.{idOf}
+use Rattle.records.specs.Places.{idOf}
 use Rattle.records.specs.declared.Extent.the-variants.{Ends}
 use Rattle.records.proofs.Range.{ends-inj}
 use Rattle.pool.specs.Answer.{Answer, answer}

@@ -6,7 +6,7 @@ use lib.Dec.{eqb, ltb}
 use lib.ListN.{length}
 use Rattle.records.specs.Layout.{markNumber, markOf, three}
 use Rattle.records.specs.Extents.{extentOf}
-use Rattle.records.specs.Fields.{idOf}
+use Rattle.records.specs.Places.{idOf}
 use Rattle.records.specs.declared.Extent.{Extent}
 use Rattle.records.specs.declared.Extent.the-variants.{Ends, NoMark, Cut, LengthOver}
 use Rattle.pool.specs.Answer.{Answer, answer}

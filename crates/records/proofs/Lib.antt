@@ -2,4 +2,4 @@
 pub mod Ends
 pub mod Range
 pub mod Late
-pub mod Views
+pub mod Marks

@@ -10,7 +10,7 @@ use lib.ListN.{length, getD}
 use Rattle.wire.specs.Bytes.{numberAt}
 use Rattle.records.specs.Layout.{Field, fixed, text, entries, layout, markOf, three}
 use Rattle.records.specs.Extents.{pick, fieldEnd, next, fieldsEnd, markedEnd, extentOf}
-use Rattle.records.specs.Fields.{behind, behindAll}
+use Rattle.records.specs.Places.{behind, behindAll}
 use Rattle.records.specs.declared.Kind.{Kind}
 use Rattle.records.specs.declared.Kind.the-variants.{Dvc, Det, Dpd, Dpt, Dvp}
 use Rattle.records.specs.declared.Mark.{Mark}

@@ -1,5 +1,5 @@
 -- What the contracts of `records` cite, in the order to read it.
 pub mod Layout
 pub mod Extents
-pub mod Fields
+pub mod Places
 pub mod Late

@@ -1,4 +1,4 @@
-// The five records of annex A: their marks, where a record ends, and its fields by value.
+// The five records of annex A: their marks, where a record ends, and what fields it has.
 // Every public function takes any bytes and any place.
 mod end;
 pub mod view;

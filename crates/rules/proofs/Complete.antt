@@ -8,10 +8,10 @@ use native.Mathlib.Omega.{arith}
 use borrow.Author.Tests.{eq-eqb, ne-eqb, lt-ltb}
 use lib.Dec.{eqb, leb}
 use lib.ListN.{length}
-use Rattle.records.specs.Fields.{deviceOf, elementOf, processDataOf, propertyOf, presentationOf}
 use Rattle.records.specs.declared.Span.{Span}
 use Rattle.records.specs.declared.Kind.{Kind}
 use Rattle.records.specs.declared.Kind.the-variants.{Dvc, Det, Dpd, Dpt, Dvp}
+use Rattle.views.specs.Fields.{deviceOf, elementOf, processDataOf, propertyOf, presentationOf}
 use Rattle.faults.specs.Faults.{fault}
 use Rattle.faults.specs.Rows.{Row, one, many, Found}
 use Rattle.pool.specs.Reading.{Entry}

@@ -10,8 +10,9 @@ use borrow.Author.Tests.{eq-eqb, eqb-true}
 use lib.Dec.{eqb}
 use Rattle.wire.specs.Bytes.{numberAt}
 use Rattle.records.specs.Layout.{layout}
-use Rattle.records.specs.Fields.{fieldAt, entryOf, processDataOf, propertyOf}
+use Rattle.records.specs.Places.{fieldAt}
 use Rattle.records.specs.declared.Kind.the-variants.{Dpd, Dpt}
+use Rattle.views.specs.Fields.{entryOf, processDataOf, propertyOf}
 use Rattle.pool.specs.Reading.{Entry}
 use Rattle.naming.specs.Records.{startAt, kindAt}
 use Rattle.naming.specs.Naming.{kindOf, ddiOf, isData, tagOf, among}

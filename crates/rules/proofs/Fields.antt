@@ -10,9 +10,10 @@ use borrow.Author.Tests.{eq-eqb, eqb-true, le-leb, leb-true, lt-ltb, ltb-true}
 use lib.Dec.{eqb, ltb, leb}
 use lib.ListN.{getD}
 use Rattle.records.specs.Layout.{layout}
-use Rattle.records.specs.Fields.{partOf, fieldAt, deviceOf}
+use Rattle.records.specs.Places.{fieldAt}
 use Rattle.records.specs.declared.Span.{Span}
 use Rattle.records.specs.declared.Kind.the-variants.{Dvc}
+use Rattle.views.specs.Fields.{partOf, deviceOf}
 use Rattle.text.specs.Examined.{soundText, Sound}
 use Rattle.text.proofs.Examining.{examined}
 use Rattle.pool.specs.Reading.{Entry}

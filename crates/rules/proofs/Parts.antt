@@ -6,10 +6,10 @@ use Prim.Native.Nat.{ℕ, zero, suc}
 use borrow.Author.Tests.{eqb-true}
 use lib.Dec.{eqb}
 use lib.ListN.{length}
-use Rattle.records.specs.Fields.{deviceOf, elementOf, processDataOf, propertyOf, presentationOf}
 use Rattle.records.specs.Layout.{kindNumber}
 use Rattle.records.specs.declared.Kind.{Kind}
 use Rattle.records.specs.declared.Kind.the-variants.{Dvc, Det, Dpd, Dpt, Dvp}
+use Rattle.views.specs.Fields.{deviceOf, elementOf, processDataOf, propertyOf, presentationOf}
 use Rattle.faults.specs.Rows.{Row, inOrder}
 use Rattle.pool.specs.Reading.{Entry}
 use Rattle.naming.specs.Records.{startAt, idAt, kindAt}

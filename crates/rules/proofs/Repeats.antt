@@ -7,7 +7,7 @@ use native.Mathlib.Decide.{ℕ-discrete, decLt}
 use native.Mathlib.Omega.{arith}
 use borrow.Author.Tests.{eq-eqb, ne-eqb}
 use lib.Dec.{eqb}
-use Rattle.records.specs.Fields.{elementOf}
+use Rattle.views.specs.Fields.{elementOf}
 use Rattle.pool.specs.Reading.{Entry}
 use Rattle.naming.specs.Records.{startAt, kindAt}
 use Rattle.naming.specs.Naming.{firstOf, numberKey, typeKey}

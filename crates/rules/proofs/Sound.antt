@@ -9,10 +9,10 @@ use native.Mathlib.Omega.{arith}
 use borrow.Author.Tests.{eq-eqb, ne-eqb, eqb-true, ltb-true}
 use lib.Dec.{eqb, leb}
 use lib.ListN.{length}
-use Rattle.records.specs.Fields.{elementOf, processDataOf, propertyOf, presentationOf}
 use Rattle.records.specs.declared.Span.{Span}
 use Rattle.records.specs.declared.Kind.{Kind}
 use Rattle.records.specs.declared.Kind.the-variants.{Dvc, Det, Dpd, Dpt, Dvp}
+use Rattle.views.specs.Fields.{elementOf, processDataOf, propertyOf, presentationOf}
 use Rattle.faults.specs.Faults.{Fault}
 use Rattle.faults.specs.Rows.{Row, one, many, Found}
 use Rattle.pool.specs.Reading.{Entry}

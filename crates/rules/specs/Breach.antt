@@ -6,10 +6,10 @@ use mathlib.Core.Logic.{_⊎_}
 use mathlib.Core.List.{List}
 use lib.ListN.{length, getD}
 use Rattle.records.specs.Layout.{kindNumber}
-use Rattle.records.specs.Fields.{partOf, deviceOf, elementOf, entryOf, processDataOf, propertyOf, presentationOf}
 use Rattle.records.specs.declared.Kind.{Kind}
 use Rattle.records.specs.declared.Kind.the-variants.{Dvc, Det, Dpd, Dpt, Dvp}
 use Rattle.records.specs.declared.Span.{Span}
+use Rattle.views.specs.Fields.{partOf, deviceOf, elementOf, entryOf, processDataOf, propertyOf, presentationOf}
 use Rattle.text.specs.Examined.{Sound}
 use Rattle.pool.specs.Reading.{Entry}
 use Rattle.naming.specs.Records.{recordAt, startAt, idAt}

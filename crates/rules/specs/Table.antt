@@ -5,13 +5,13 @@ use mathlib.Core.Bool.{Bool, true, false, cond, not, _&&_, _||_}
 use mathlib.Core.List.{List, [], _∷_, _++_}
 use lib.Dec.{eqb, ltb, leb}
 use lib.ListN.{length, getD}
-use Rattle.records.specs.Fields.{partOf, deviceOf, elementOf, entryOf, processDataOf, propertyOf, presentationOf}
 use Rattle.records.specs.declared.Span.{Span}
 use Rattle.records.specs.declared.Device.{Device}
 use Rattle.records.specs.declared.DeviceElement.{DeviceElement}
 use Rattle.records.specs.declared.ProcessData.{ProcessData}
 use Rattle.records.specs.declared.Property.{Property}
 use Rattle.records.specs.declared.ValuePresentation.{ValuePresentation}
+use Rattle.views.specs.Fields.{partOf, deviceOf, elementOf, entryOf, processDataOf, propertyOf, presentationOf}
 use Rattle.text.specs.Examined.{soundText}
 use Rattle.faults.specs.Faults.{Fault}
 use Rattle.faults.specs.Rows.{Row, one, many, inRecords}

@@ -199,7 +199,7 @@ fn is_single(p: &[u8], from: usize, n: usize) -> bool
 fn is_sound_part(p: &[u8], from: usize, to: usize) -> bool
     ensures { λ r. ⌜ r ≡ soundText (take (to - from) (drop from (now (p .entry)))) ⌝ }
 {
-    is_sound_slice(records::view::part(p, Span { from, to }))
+    is_sound_slice(views::part(p, Span { from, to }))
 }
 
 // Whether a text has at most 32 bytes and so many follow where it begins.

@@ -2,8 +2,8 @@
 use mathlib.Core.Path.{refl, ap, _∙_}
 use native.Mathlib.Omega.{arith}
 use lib.ListN.{length}
-use Rattle.records.specs.Fields.{partOf, deviceOf}
 use Rattle.records.specs.declared.Device.{Device}
+use Rattle.views.specs.Fields.{partOf, deviceOf}
 use Rattle.device.proofs.Padded.{copied, structure-long, localization-long}
 use borrow.Author.Needs.{needs}
 use Rattle.device.proofs.labels_at.Statement.{statement}

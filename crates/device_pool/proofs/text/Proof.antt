@@ -38,7 +38,7 @@ use denote.Triple.Clauses.{ensured, lasts}
 use denote.Triple.Table.{entered, cited}
 use denote.Triple.Walked.{says, Stays, gave-slice, gave-ref, stay-none-slice, stay-none, walkOf, goes-gave-slice, goes-gave-ref, goes-none-slice, goes-none, Walks, ends-at, walked, walk-meets}
 use denote.Exit.{yes}
-use Rattle.records.specs.Fields.{partOf}
+use Rattle.views.specs.Fields.{partOf}
 use Rattle.device.specs.Queries.{textNumber, textOf, Finds}
 use Rattle.device.specs.declared.Place.{Place}
 use Rattle.device.proofs.Place as S

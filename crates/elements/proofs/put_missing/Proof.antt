@@ -8,7 +8,7 @@ use native.Mathlib.Omega.{arith}
 use lib.Dec.{eqb}
 use lib.ListN.{length, getD, set, length-set}
 use lib.Seq.{getD-set-same, getD-set-other}
-use Rattle.records.specs.Fields.{entryOf}
+use Rattle.views.specs.Fields.{entryOf}
 use Rattle.faults.specs.Rows.{many}
 use Rattle.faults.specs.Emission.{Puts}
 use Rattle.faults.proofs.Emission.{alike-many, puts-alike, puts-start, puts-turn, puts-few, puts-length}

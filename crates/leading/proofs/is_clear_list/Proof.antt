@@ -5,7 +5,7 @@ use Prim.Native.Nat.{ℕ, _+_, _-_, _*_, _≤_, _<_}
 use native.Mathlib.Omega.{arith}
 use lib.ListN.{length, getD, set, length-set}
 use Rattle.wire.specs.Bytes.{numberAt}
-use Rattle.records.specs.Fields.{entryOf}
+use Rattle.views.specs.Fields.{entryOf}
 use Rattle.naming.specs.Naming.{named, tagOf}
 use Rattle.naming.specs.Lists.{shown, namedIn}
 use Rattle.naming.specs.Links.{linkOf}

@@ -2,7 +2,7 @@
 use mathlib.Core.Path.{_≡_, refl}
 use Prim.Native.Nat.{_+_, _*_}
 use lib.ListN.{getD}
-use Rattle.records.specs.Fields.{deviceOf, presentationOf}
+use Rattle.views.specs.Fields.{deviceOf, presentationOf}
 use Rattle.naming.specs.Lists.{shown}
 use Rattle.faults.proofs.Emission.{rows-nil}
 use Rattle.faults.proofs.Clearing.{in-clear}

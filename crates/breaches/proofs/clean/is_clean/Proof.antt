@@ -3,7 +3,7 @@ use mathlib.Core.Path.{_≡_, refl, sym, _∙_}
 use Prim.Native.Nat.{_+_, _*_}
 use native.Mathlib.Omega.{arith}
 use lib.ListN.{getD}
-use Rattle.records.specs.Fields.{presentationOf}
+use Rattle.views.specs.Fields.{presentationOf}
 use Rattle.naming.specs.Lists.{shown}
 use Rattle.rules.proofs.Truth.{untrue}
 use Rattle.fields.proofs.ByKind.{as-element, data-rows, property-rows, value-rows}

@@ -3,8 +3,8 @@ use mathlib.Core.Path.{_≡_, sym, ap, _∙_}
 use Prim.Native.Nat.{ℕ, _*_, _<_, _≤_}
 use native.Mathlib.Omega.{arith}
 use lib.ListN.{length, getD}
-use Rattle.records.specs.Fields.{elementOf}
 use Rattle.records.specs.declared.DeviceElement.{DeviceElement}
+use Rattle.views.specs.Fields.{elementOf}
 use Rattle.naming.specs.Records.{startAt}
 use Rattle.naming.specs.Lists.{shown}
 use Rattle.naming.proofs.Tabled.{starts}

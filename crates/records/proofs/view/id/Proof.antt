@@ -1,5 +1,5 @@
 -- `records::view::id` meets its contract. Assumes nothing.
-use Rattle.records.specs.Fields.{idOf}
+use Rattle.records.specs.Places.{idOf}
 use borrow.Author.Needs.{needs}
 use Rattle.records.proofs.view.id.Statement.{statement}
 use Rattle.records.proofs.view.id.Tie as tie

@@ -1,7 +1,7 @@
 -- `records::view::kind` meets its contract. Assumes nothing.
 use mathlib.Core.Path.{_≡_, sym, ap, _∙_}
 use Rattle.records.specs.Layout.{markNumber}
-use Rattle.records.proofs.Views.{kind-short}
+use Rattle.records.proofs.Marks.{kind-short}
 use borrow.Author.Needs.{needs}
 use Rattle.records.proofs.view.kind.Statement.{statement}
 use Rattle.records.proofs.view.kind.Tie as tie

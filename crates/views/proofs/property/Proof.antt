@@ -1,11 +1,11 @@
--- `records::view::property` meets its contract. Assumes nothing.
+-- `views::property` meets its contract. Assumes nothing.
 use mathlib.Core.Path.{_∙_}
 use mir.Syntax.{w32}
 use mir.ValLaws.{toZ-ofZ}
-use Rattle.records.proofs.Views.{property-view}
+use Rattle.views.proofs.Views.{property-view}
 use borrow.Author.Needs.{needs}
-use Rattle.records.proofs.view.property.Statement.{statement}
-use Rattle.records.proofs.view.property.Tie as tie
+use Rattle.views.proofs.property.Statement.{statement}
+use Rattle.views.proofs.property.Tie as tie
 
 add-id-at : tie.Need-add-id-at
 add-id-at c = search needs

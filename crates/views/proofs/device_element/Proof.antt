@@ -1,8 +1,8 @@
--- `records::view::device_element` meets its contract. Assumes nothing.
-use Rattle.records.proofs.Views.{element-view}
+-- `views::device_element` meets its contract. Assumes nothing.
+use Rattle.views.proofs.Views.{element-view}
 use borrow.Author.Needs.{needs}
-use Rattle.records.proofs.view.device_element.Statement.{statement}
-use Rattle.records.proofs.view.device_element.Tie as tie
+use Rattle.views.proofs.device_element.Statement.{statement}
+use Rattle.views.proofs.device_element.Tie as tie
 
 add-id-at : tie.Need-add-id-at
 add-id-at c = search needs

@@ -1,8 +1,8 @@
--- `records::view::process_data` meets its contract. Assumes nothing.
-use Rattle.records.proofs.Views.{process-data-view}
+-- `views::process_data` meets its contract. Assumes nothing.
+use Rattle.views.proofs.Views.{process-data-view}
 use borrow.Author.Needs.{needs}
-use Rattle.records.proofs.view.process_data.Statement.{statement}
-use Rattle.records.proofs.view.process_data.Tie as tie
+use Rattle.views.proofs.process_data.Statement.{statement}
+use Rattle.views.proofs.process_data.Tie as tie
 
 add-id-at : tie.Need-add-id-at
 add-id-at c = search needs

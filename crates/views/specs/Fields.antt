@@ -1,33 +1,17 @@
--- The fields of a record by value, in annex A's terms. A field is named by its number in the layout, counted from 0 after
--- the mark. Definitions only.
+-- The fields of a record by value, in annex A's terms. Definitions only.
 use Prim.Native.Nat.{ℕ, _+_, _-_, _*_}
-use mathlib.Core.List.{List, [], _∷_}
+use mathlib.Core.List.{List}
 use lib.ListN.{getD, take, drop}
 use Rattle.wire.specs.Bytes.{numberAt, signedOf}
-use Rattle.records.specs.Layout.{Field, fixed, text, entries, layout}
-use Rattle.records.specs.declared.Kind.{Kind}
+use Rattle.records.specs.Layout.{layout}
+use Rattle.records.specs.Places.{fieldAt}
 use Rattle.records.specs.declared.Kind.the-variants.{Dvc, Det, Dpd, Dpt, Dvp}
 use Rattle.records.specs.declared.Span.{Span}
 use Rattle.records.specs.declared.Device.{Device}
 use Rattle.records.specs.declared.DeviceElement.{DeviceElement}
 use Rattle.records.specs.declared.ProcessData.{ProcessData}
 use Rattle.records.specs.declared.Property.{Property}
 use Rattle.records.specs.declared.ValuePresentation.{ValuePresentation}
-
--- the place behind a field that starts at a place
-abbrev pub behind : Field → List ℕ → ℕ → ℕ
-behind (fixed n) p at = at + n
-behind (text limit) p at = at + 1 + getD p at 0
-behind entries p at = at + 2 + 2 * numberAt 2 p at
-
-abbrev pub behindAll : List Field → List ℕ → ℕ → ℕ
-behindAll [] p at = at
-behindAll (f ∷ fs) p at = behindAll fs p (behind f p at)
-
--- where field i of the record that starts at a place stands
-unfoldable pub fieldAt : Kind → ℕ → List ℕ → ℕ → ℕ
-unfolding layout
-fieldAt k i p at = behindAll (take i (layout k)) p (at + 3)
 
 -- the bytes of a text, and of a field of n bytes
 abbrev pub textAt : List ℕ → ℕ → Span
@@ -39,10 +23,6 @@ bytesAt n at = record { from = at; to = at + n }
 -- the bytes that a span takes of a pool
 abbrev pub partOf : List ℕ → Span → List ℕ
 partOf p s = take (s .to - s .from) (drop (s .from) p)
-
--- the object ID is the first field of every kind
-unfoldable pub idOf : List ℕ → ℕ → ℕ
-idOf p at = numberAt 2 p (at + 3)
 
 unfoldable pub deviceOf : List ℕ → ℕ → Device
 unfolding fieldAt layout

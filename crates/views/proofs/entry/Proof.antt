@@ -1,8 +1,8 @@
--- `records::view::entry` meets its contract. Assumes nothing.
-use Rattle.records.proofs.Views.{entry-view}
+-- `views::entry` meets its contract. Assumes nothing.
+use Rattle.views.proofs.Views.{entry-view}
 use borrow.Author.Needs.{needs}
-use Rattle.records.proofs.view.entry.Statement.{statement}
-use Rattle.records.proofs.view.entry.Tie as tie
+use Rattle.views.proofs.entry.Statement.{statement}
+use Rattle.views.proofs.entry.Tie as tie
 
 add-id-at : tie.Need-add-id-at
 add-id-at c = search needs

@@ -1,22 +1,19 @@
 -- A record's fields, from what stands at each place. Assumes nothing.
-use mathlib.Core.Path.{_≡_, refl, sym, ap, _∙_}
-use mathlib.Core.Bool.{Bool, true, false, _&&_}
-use mathlib.Core.List.{List, [], _∷_}
-use Prim.Native.Nat.{ℕ, _+_, _*_, _<_}
-use native.Mathlib.Omega.{arith}
+use mathlib.Core.Path.{_≡_}
+use mathlib.Core.List.{List}
+use Prim.Native.Nat.{ℕ, _+_, _*_}
 use lib.IntN.{ℤ}
-use lib.Dec.{eqb}
-use lib.ListN.{length, getD, List·getD-eq-default}
+use lib.ListN.{getD}
 use Rattle.wire.specs.Bytes.{numberAt, signedOf}
-use Rattle.records.specs.Layout.{layout, markNumber, mark, markOf, three}
-use Rattle.records.specs.Fields.{textAt, bytesAt, fieldAt, deviceOf, elementOf, entryOf, processDataOf, propertyOf, presentationOf}
-use Rattle.records.specs.declared.Mark.the-variants.{Unknown}
+use Rattle.records.specs.Layout.{layout}
+use Rattle.records.specs.Places.{fieldAt}
 use Rattle.records.specs.declared.Span.{Span}
 use Rattle.records.specs.declared.Device.{Device}
 use Rattle.records.specs.declared.DeviceElement.{DeviceElement}
 use Rattle.records.specs.declared.ProcessData.{ProcessData}
 use Rattle.records.specs.declared.Property.{Property}
 use Rattle.records.specs.declared.ValuePresentation.{ValuePresentation}
+use Rattle.views.specs.Fields.{textAt, bytesAt, deviceOf, elementOf, entryOf, processDataOf, propertyOf, presentationOf}
 
 module _ (p : List ℕ) (at : ℕ) where
   pub device-view : (d v s e : Span) (n : ℕ)
@@ -56,19 +53,3 @@ module _ (p : List ℕ) (at : ℕ) where
       → _≡_ {A = ValuePresentation} (record { offset = o; scale = s; decimals = k; unit = u }) (presentationOf p at)
   unfolding presentationOf fieldAt layout
   presentation-view u s k o ho hs hk hu = cc
-
--- where fewer than three bytes are left, no mark stands: past the end is 0, which is in none
-unmarked : (a b : ℕ) → markOf (a ∷ b ∷ 0 ∷ []) ≡ Unknown
-unfolding markOf mark
-unmarked a b = rw (never (eqb a 68) (eqb b 86), never (eqb a 68) (eqb b 69), never (eqb a 68) (eqb b 80))
-  where
-    never : (x y : Bool) → x && (y && false) ≡ false
-    never true true = refl
-    never true false = refl
-    never false y = refl
-
-pub kind-short : (p : List ℕ) (at : ℕ) → length p < at + 3 → markNumber (markOf (three p at)) ≡ 0
-kind-short p at h =
-    let z : getD p (at + 2) 0 ≡ 0 = List·getD-eq-default p 0 (omega arith) in
-    let m : markOf (three p at) ≡ Unknown = rw z (unmarked (getD p at 0) (getD p (at + 1) 0)) in
-    ap markNumber m

@@ -1,9 +1,9 @@
--- `records::view::entries_from` meets its contract. Assumes nothing.
+-- `views::entries_from` meets its contract. Assumes nothing.
 use native.Mathlib.Omega.{arith}
-use Rattle.records.proofs.Views.{entries-view}
+use Rattle.views.proofs.Views.{entries-view}
 use borrow.Author.Needs.{needs}
-use Rattle.records.proofs.view.entries_from.Statement.{statement}
-use Rattle.records.proofs.view.entries_from.Tie as tie
+use Rattle.views.proofs.entries_from.Statement.{statement}
+use Rattle.views.proofs.entries_from.Tie as tie
 
 add-id-at : tie.Need-add-id-at
 add-id-at c = search needs

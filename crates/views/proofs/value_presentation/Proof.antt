@@ -1,11 +1,11 @@
--- `records::view::value_presentation` meets its contract. Assumes nothing.
+-- `views::value_presentation` meets its contract. Assumes nothing.
 use mathlib.Core.Path.{_∙_}
 use mir.Syntax.{w32}
 use mir.ValLaws.{toZ-ofZ}
-use Rattle.records.proofs.Views.{presentation-view}
+use Rattle.views.proofs.Views.{presentation-view}
 use borrow.Author.Needs.{needs}
-use Rattle.records.proofs.view.value_presentation.Statement.{statement}
-use Rattle.records.proofs.view.value_presentation.Tie as tie
+use Rattle.views.proofs.value_presentation.Statement.{statement}
+use Rattle.views.proofs.value_presentation.Tie as tie
 
 add-id-at : tie.Need-add-id-at
 add-id-at c = search needs

@@ -1,8 +1,8 @@
--- `records::view::device` meets its contract. Assumes nothing.
-use Rattle.records.proofs.Views.{device-view}
+-- `views::device` meets its contract. Assumes nothing.
+use Rattle.views.proofs.Views.{device-view}
 use borrow.Author.Needs.{needs}
-use Rattle.records.proofs.view.device.Statement.{statement}
-use Rattle.records.proofs.view.device.Tie as tie
+use Rattle.views.proofs.device.Statement.{statement}
+use Rattle.views.proofs.device.Tie as tie
 
 add-id-at : tie.Need-add-id-at
 add-id-at c = search needs

@@ -1,11 +1,11 @@
--- `records::view::text` meets its contract. Assumes nothing.
+-- `views::text` meets its contract. Assumes nothing.
 use mathlib.Core.Path.{_≡_, ap}
 use Prim.Native.Nat.{ℕ, _+_}
 use native.Mathlib.Omega.{arith}
 use Rattle.records.specs.declared.Span.{Span}
 use borrow.Author.Needs.{needs}
-use Rattle.records.proofs.view.text.Statement.{statement}
-use Rattle.records.proofs.view.text.Tie as tie
+use Rattle.views.proofs.text.Statement.{statement}
+use Rattle.views.proofs.text.Tie as tie
 
 read-u8-requires : tie.Need-read-u8-requires
 read-u8-requires c κs = search needs

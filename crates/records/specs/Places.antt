@@ -1,0 +1,26 @@
+-- Where a record's fields stand. A field is named by its number in the layout, counted from 0 after the mark. Definitions only.
+use Prim.Native.Nat.{ℕ, _+_, _*_}
+use mathlib.Core.List.{List, [], _∷_}
+use lib.ListN.{getD, take}
+use Rattle.wire.specs.Bytes.{numberAt}
+use Rattle.records.specs.Layout.{Field, fixed, text, entries, layout}
+use Rattle.records.specs.declared.Kind.{Kind}
+
+-- the place behind a field that starts at a place
+abbrev pub behind : Field → List ℕ → ℕ → ℕ
+behind (fixed n) p at = at + n
+behind (text limit) p at = at + 1 + getD p at 0
+behind entries p at = at + 2 + 2 * numberAt 2 p at
+
+abbrev pub behindAll : List Field → List ℕ → ℕ → ℕ
+behindAll [] p at = at
+behindAll (f ∷ fs) p at = behindAll fs p (behind f p at)
+
+-- where field i of the record that starts at a place stands
+unfoldable pub fieldAt : Kind → ℕ → List ℕ → ℕ → ℕ
+unfolding layout
+fieldAt k i p at = behindAll (take i (layout k)) p (at + 3)
+
+-- the object ID is the first field of every kind
+unfoldable pub idOf : List ℕ → ℕ → ℕ
+idOf p at = numberAt 2 p (at + 3)
