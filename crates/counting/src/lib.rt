@@ -82,7 +82,7 @@ fn prepare(
     if !naming::index_numbers(p, table, count, room, numbers) {
         return false;
     }
-    naming::chains(p, table, count, index, ups);
+    chains::chains(p, table, count, index, ups);
     true
 }
 

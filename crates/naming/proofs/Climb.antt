@@ -24,11 +24,6 @@ unfolding climb
 climb-zero f zero e = refl
 climb-zero f (suc n) e = rw e (climb-zero f n e)
 
-pub climb-le : (f : ℕ → ℕ) (n : ℕ) → ((r : ℕ) → r ≤ n → f r ≤ n) → (k r : ℕ) → r ≤ n → climb f k r ≤ n
-unfolding climb
-climb-le f n within zero r h = h
-climb-le f n within (suc k) r h = climb-le f n within k (f r) (within r h)
-
 -- a chain that has ended stays at its end
 pub zero-stays : (f : ℕ → ℕ) (m n r : ℕ) → f 0 ≡ 0 → m ≤ n → climb f m r ≡ 0 → climb f n r ≡ 0
 zero-stays f m n r e h z =

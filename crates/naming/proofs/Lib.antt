@@ -5,7 +5,6 @@ pub mod Links
 pub mod Climb
 pub mod Named
 pub mod Entering
-pub mod Jumping
 pub mod Tabled
 pub mod Lists
 pub mod Looking

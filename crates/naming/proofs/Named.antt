@@ -14,7 +14,7 @@ use Rattle.naming.specs.Records.{idAt}
 use Rattle.naming.specs.Naming.{named, kindOf, parentOf}
 use Rattle.naming.specs.Lists.{entryIn, shown, kindIn, Indexed}
 use Rattle.naming.proofs.Shown.{shown-long, shown-at, shown-kind}
-use Rattle.naming.proofs.Climb.{named-le, parent-le}
+use Rattle.naming.proofs.Climb.{named-le}
 
 -- what looking an ID up in the list gives
 pub named-listed : (table index : List ℕ) (n x : ℕ) → Indexed (idAt (shown table n)) n index → cond (eqb x 65535) 0 (getD index x 0) ≡ named (shown table n) x
@@ -55,6 +55,3 @@ module _ (p table : List ℕ) (n i : ℕ) (inside : i < n) where
 
     pub parent-other : (kindIn table r ≡ 2 → ⊥) → 0 ≡ parentOf p (shown table n) (i + 1)
     parent-other h = by-other (entryIn table i .kind) (kindIn table r) r own h ∙ parent-by r names
-
-pub parent-within : (p table : List ℕ) (n r : ℕ) → parentOf p (shown table n) r ≤ n
-parent-within p table n r = omega (arith, parent-le p (shown table n) r, shown-long table n)

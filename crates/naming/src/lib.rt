@@ -1,15 +1,15 @@
-// What IDs name, by a list under the ID, and chains of parents. The lists are lent: how long they are is the caller's choice.
+// What IDs name, by a list under the ID. The lists are lent: how long they are is the caller's choice.
 ghost use mathlib.Core.Path.{_≡_};
-ghost use mathlib.Core.Bool.{true, false, cond};
-ghost use Prim.Native.Nat.{ℕ, _+_, _*_, _≤_, _<_};
+ghost use mathlib.Core.Bool.{true, cond};
+ghost use Prim.Native.Nat.{_+_, _*_, _≤_, _<_};
 ghost use lib.Dec.{eqb};
 ghost use lib.ListN.{length, getD};
 ghost use Rattle.pool.specs.Reading.{width};
 ghost use Rattle.naming.specs.Records.{idAt};
-ghost use Rattle.naming.specs.Naming.{numberKey, parentOf};
-ghost use Rattle.naming.specs.Lists.{shown, kindIn, Blank, Indexed, IndexedBelow, Ended, Roomy};
+ghost use Rattle.naming.specs.Naming.{numberKey};
+ghost use Rattle.naming.specs.Lists.{shown, kindIn, Blank, Indexed, IndexedBelow, Roomy};
 ghost use Rattle.naming.specs.Links.{linkKind, Linked, ownFits, Owned};
-ghost use Rattle.naming.specs.Steps.{entered, numberIn, RoomIn, Climbs, Doubles, Closed};
+ghost use Rattle.naming.specs.Steps.{entered, numberIn, RoomIn};
 
 // Puts a record's number under a key that has none yet.
 fn enter(index: &mut [u16], key: u16, number: u16)
@@ -173,75 +173,4 @@ pub fn kind_at(table: &[u16], number: u16) -> u16
         return table[at];
     }
     0
-}
-
-// The number of the device element that the parent of record i names, 0 where a chain ends.
-fn parent_at(p: &[u8], table: &[u16], count: usize, index: &[u16], i: usize) -> u16
-    requires { ⌜ (count * width ≤ length (now table)) × (count ≤ 8192) × Indexed (idAt (shown (now table) count)) count (now index) × (i < count) ⌝ }
-    ensures { λ r. ⌜ r ≡ parentOf (now (p .entry)) (shown (now (table .entry)) count) (i + 1) ⌝ }
-{
-    if table[i * 4 + 2] != 2 {
-        return 0;
-    }
-    let element = views::device_element(p, table[i * 4]);
-    let parent = named_at(index, element.parent);
-    if kind_at(table, parent) == 2 {
-        return parent;
-    }
-    0
-}
-
-// Puts under the number of each device element where a step up leads, or more steps: from a parent that stands before it on
-// to where that one's lead. Tells whether a chain is left that has not ended.
-fn parents(p: &[u8], table: &[u16], count: usize, index: &[u16], ups: &mut [u16]) -> bool
-    requires { ⌜ (count * width ≤ length (now table)) × (count ≤ 8192) × Indexed (idAt (shown (now table) count)) count (now index) × (count < length (now ups)) × Blank (now ups) ⌝ }
-    ensures { λ left. ⌜ Climbs (parentOf (now (p .entry)) (shown (now (table .entry)) count)) count 1 (now (ups .exit)) × (left ≡ false → (r : ℕ) → r ≤ count → getD (now (ups .exit)) r 0 ≡ 0) ⌝ }
-{
-    let mut left = false;
-    let mut i: usize = 0;
-    while i < count {
-        let mut up = parent_at(p, table, count, index, i);
-        if up as usize <= i {
-            up = ups[up as usize];
-        }
-        ups[i + 1] = up;
-        left = left | (up != 0);
-        i += 1;
-    }
-    left
-}
-
-// Replaces each step up by the step from there: at least twice as many. It goes from the last record to the first, so that a
-// chain whose parents stand behind is climbed in one round. Tells whether a chain has come to its end in this round.
-fn jump(ups: &mut [u16], count: usize) -> bool
-    requires { ⌜ (count ≤ 8192) × (count < length (now ups)) × (getD (now ups) 0 0 ≡ 0) × ((r : ℕ) → r ≤ count → getD (now ups) r 0 ≤ count) ⌝ }
-    ensures { λ ended. ⌜ Doubles count (now (ups .entry)) (now (ups .exit)) × (ended ≡ false → Closed count (now (ups .entry)) × ((r : ℕ) → r ≤ count → getD (now (ups .entry)) r 0 ≡ 0 → getD (now (ups .exit)) r 0 ≡ 0)) ⌝ }
-{
-    let mut ended = false;
-    let mut r = count;
-    while 0 < r {
-        let up = ups[r];
-        let next = ups[up as usize];
-        ups[r] = next;
-        ended = ended | ((up != 0) & (next == 0));
-        r -= 1;
-    }
-    ended
-}
-
-// Finds for every record whether its chain of parents ends. After a round in which none has come to its end, none will.
-pub fn chains(p: &[u8], table: &[u16], count: usize, index: &[u16], ups: &mut [u16])
-    requires { ⌜ (count * width ≤ length (now table)) × (count ≤ 8192) × Indexed (idAt (shown (now table) count)) count (now index) × (count < length (now ups)) × Blank (now ups) ⌝ }
-    ensures { λ _. ⌜ Ended (now (p .entry)) (shown (now (table .entry)) count) count (now (ups .exit)) ⌝ }
-{
-    if !parents(p, table, count, index, ups) {
-        return;
-    }
-    let mut steps: usize = 1;
-    while steps < count {
-        if !jump(ups, count) {
-            return;
-        }
-        steps *= 2;
-    }
 }

@@ -10,11 +10,19 @@ use borrow.Author.Tests.{eqb-true, eq-eqb, ne-eqb, not-false}
 use lib.Dec.{eqb}
 use lib.ListN.{length, getD, set, length-set}
 use lib.Seq.{getD-set-same, getD-set-other}
 use Rattle.naming.specs.Naming.{parentOf, climb}
 use Rattle.naming.specs.Lists.{shown, Ended}
-use Rattle.naming.specs.Steps.{Climbs, Doubles, Closed}
-use Rattle.naming.proofs.Climb.{climb-add, climb-zero, climb-le, zero-stays, ended, parent-zero}
-use Rattle.naming.proofs.Named.{parent-within}
+use Rattle.chains.specs.Steps.{Climbs, Doubles, Closed}
+use Rattle.naming.proofs.Climb.{climb-add, climb-zero, zero-stays, ended, parent-zero, parent-le}
+use Rattle.naming.proofs.Shown.{shown-long}
+
+climb-le : (f : ℕ → ℕ) (n : ℕ) → ((r : ℕ) → r ≤ n → f r ≤ n) → (k r : ℕ) → r ≤ n → climb f k r ≤ n
+unfolding climb
+climb-le f n within zero r h = h
+climb-le f n within (suc k) r h = climb-le f n within k (f r) (within r h)
+
+parent-within : (p table : List ℕ) (n r : ℕ) → parentOf p (shown table n) r ≤ n
+parent-within p table n r = omega (arith, parent-le p (shown table n) r, shown-long table n)
 
 -- x is q after m steps or more
 abbrev Climbed : (ℕ → ℕ) → ℕ → ℕ → ℕ → Type 0

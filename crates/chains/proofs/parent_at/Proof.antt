@@ -1,12 +1,12 @@
--- `naming::parent_at` meets its contract. Assumes nothing.
+-- `chains::parent_at` meets its contract. Assumes nothing.
 use mathlib.Core.Path.{sym, ap, _∙_}
 use borrow.Author.Needs.{needs}
 use Rattle.records.specs.declared.DeviceElement.{DeviceElement}
 use Rattle.naming.specs.Naming.{named}
 use Rattle.naming.specs.Lists.{shown}
 use Rattle.naming.proofs.Named.{named-listed, parent-none, parent-some, parent-other}
-use Rattle.naming.proofs.parent_at.Statement.{statement}
-use Rattle.naming.proofs.parent_at.Tie as tie
+use Rattle.chains.proofs.parent_at.Statement.{statement}
+use Rattle.chains.proofs.parent_at.Tie as tie
 
 mul-if1 : tie.Need-mul-if1
 mul-if1 c = search needs

@@ -1,4 +1,4 @@
--- `naming::parents` meets its contract: after i records those have been stepped from. Assumes nothing.
+-- `chains::parents` meets its contract: after i records those have been stepped from. Assumes nothing.
 use mathlib.Core.Path.{_≡_, refl, sym, subst}
 use mathlib.Core.Bool.{not, _||_}
 use mathlib.Core.Logic.{⊎-elim}
@@ -6,12 +6,12 @@ use Prim.Native.Nat.{ℕ, _+_, _-_, _≤_, _<_}
 use native.Mathlib.Omega.{arith}
 use lib.Dec.{eqb}
 use lib.ListN.{length, set, length-set}
 use Rattle.naming.specs.Naming.{parentOf}
 use Rattle.naming.specs.Lists.{shown}
 use Rattle.naming.proofs.Climb.{parent-zero}
-use Rattle.naming.proofs.Jumping.{Rising, rise-start, rise-once, rise-on}
-use Rattle.naming.proofs.parents.Statement.{statement}
-use Rattle.naming.proofs.parents.Tie as tie
+use Rattle.chains.proofs.Jumping.{Rising, rise-start, rise-once, rise-on}
+use Rattle.chains.proofs.parents.Statement.{statement}
+use Rattle.chains.proofs.parents.Tie as tie
 
 abbrev Inv-loop : tie.InvT-loop
 Inv-loop p table count index ups₀ left₀ i₀ ups left i =

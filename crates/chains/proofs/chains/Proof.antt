@@ -1,16 +1,16 @@
--- `naming::chains` meets its contract: what stands for each number is that number so many steps up. Assumes nothing.
+-- `chains::chains` meets its contract: what stands for each number is that number so many steps up. Assumes nothing.
 use mathlib.Core.Path.{_≡_, refl, _∙_}
 use Prim.Native.Nat.{_+_, _*_, _-_, _≤_}
 use native.Mathlib.Omega.{arith}
 use borrow.Author.Tests.{not-true}
 use lib.ListN.{length}
 use Rattle.naming.specs.Naming.{parentOf}
 use Rattle.naming.specs.Lists.{shown}
-use Rattle.naming.specs.Steps.{Climbs}
+use Rattle.chains.specs.Steps.{Climbs}
 use Rattle.naming.proofs.Climb.{parent-zero}
-use Rattle.naming.proofs.Jumping.{climbs-zero, climbs-within, climbed-ends, none-left, closed-ends}
-use Rattle.naming.proofs.chains.Statement.{statement}
-use Rattle.naming.proofs.chains.Tie as tie
+use Rattle.chains.proofs.Jumping.{climbs-zero, climbs-within, climbed-ends, none-left, closed-ends}
+use Rattle.chains.proofs.chains.Statement.{statement}
+use Rattle.chains.proofs.chains.Tie as tie
 
 abbrev Inv-loop : tie.InvT-loop
 Inv-loop p table count index ups₀ steps₀ ups steps = (1 ≤ steps) × (length ups ≡ length ups₀) × Climbs (parentOf p (shown table count)) count steps ups

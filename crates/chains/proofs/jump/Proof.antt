@@ -1,9 +1,9 @@
--- `naming::jump` meets its contract: the numbers above r have been doubled. Assumes nothing.
+-- `chains::jump` meets its contract: the numbers above r have been doubled. Assumes nothing.
 use Prim.Native.Nat.{_+_, _-_}
 use native.Mathlib.Omega.{arith}
-use Rattle.naming.proofs.Jumping.{Jumping, jump-start, jump-more, jump-end}
-use Rattle.naming.proofs.jump.Statement.{statement}
-use Rattle.naming.proofs.jump.Tie as tie
+use Rattle.chains.proofs.Jumping.{Jumping, jump-start, jump-more, jump-end}
+use Rattle.chains.proofs.jump.Statement.{statement}
+use Rattle.chains.proofs.jump.Tie as tie
 
 abbrev Inv-loop : tie.InvT-loop
 Inv-loop ups₀ count ended₀ r₀ ups ended r = Jumping count ups₀ ups ended r
