@@ -18,9 +18,12 @@ use crate::verdict::{Effort, Verdict};
 use std::fs;
 use std::io;
 use std::path::PathBuf;
+use std::thread;
 
 /// Below the repository's root.
 const DUMP: &str = "target/compare-difference.hex";
+/// As much as the main thread has on Linux: a call may need hundreds of KB.
+const STACK: usize = 8 << 20;
 /// Longer pools are given to fewer calls, unless the run is a long one.
 const SHORT_POOL: usize = 2_000;
 /// The faults of longer pools, or of pools with more, are not counted: to find
@@ -40,23 +43,35 @@ pub struct Options {
     pub long: bool,
 }
 
-/// Runs everything, prints the report and tells whether all agreed.
+/// Runs everything, prints the report and tells whether all agreed. The pools
+/// are compared beside all that needs none of them.
 pub fn run(options: Options) -> io::Result<bool> {
-    let mut run = Run::new(Lister::new(options.lister), options.long);
-    for input in fixed::inputs()? {
-        run.compare(&input);
+    thread::scope(|scope| {
+        let beside = thread::Builder::new().stack_size(STACK);
+        let others = beside.spawn_scoped(scope, || Others::compare(&options))?;
+        let mut run = Run::new(Lister::new(options.lister.clone()), options.long);
+        run.compare_pools(&options)?;
+        let others = others.join().expect("the other thread ends")?;
+        Ok(run.report(&others))
+    })
+}
+
+/// What is compared but for pools.
+struct Others {
+    texts: Report,
+    sessions: sessions::Report,
+    parts: [part::Report; 2],
+}
+
+impl Others {
+    fn compare(options: &Options) -> io::Result<Self> {
+        let Options { seed, pools, .. } = *options;
+        Ok(Others {
+            texts: texts::compare(seed, pools),
+            sessions: sessions::compare(seed, options.lists, options.long),
+            parts: [exchange::compare(seed, pools)?, logs::compare(seed, pools)?],
+        })
     }
-    let stride = (options.pools / options.listed.max(1)).max(1);
-    for index in 0..options.pools {
-        let mut input = generated::input(options.seed, index);
-        input.listed = index % stride == 0;
-        run.compare(&input);
-    }
-    let texts = texts::compare(options.seed, options.pools);
-    let sessions = sessions::compare(options.seed, options.lists, options.long);
-    let exchange = exchange::compare(options.seed, options.pools)?;
-    let logs = logs::compare(options.seed, options.pools)?;
-    Ok(run.report(&texts, &sessions, &[exchange, logs]))
 }
 
 struct Run {
@@ -76,6 +91,19 @@ impl Run {
             census: Census::new(),
             differences: 0,
         }
+    }
+
+    fn compare_pools(&mut self, options: &Options) -> io::Result<()> {
+        for input in fixed::inputs()? {
+            self.compare(&input);
+        }
+        let stride = (options.pools / options.listed.max(1)).max(1);
+        for index in 0..options.pools {
+            let mut input = generated::input(options.seed, index);
+            input.listed = index % stride == 0;
+            self.compare(&input);
+        }
+        Ok(())
     }
 
     fn compare(&mut self, input: &Input) {
@@ -180,7 +208,12 @@ impl Run {
         }
     }
 
-    fn report(&self, texts: &Report, sessions: &sessions::Report, others: &[part::Report]) -> bool {
+    fn report(&self, others: &Others) -> bool {
+        let Others {
+            texts,
+            sessions,
+            parts,
+        } = others;
         self.tallies.print();
         self.census.print();
         println!("texts: {} compared, {} sound", texts.compared, texts.sound);
@@ -188,14 +221,14 @@ impl Run {
             println!("first text that differs: {}", hex(text));
         }
         sessions.print();
-        others.iter().for_each(part::Report::print);
+        parts.iter().for_each(part::Report::print);
         let mut unseen = [
             self.tallies.unseen(),
             self.census.unseen(),
             sessions.unseen(),
         ]
         .concat();
-        unseen.extend(others.iter().flat_map(part::Report::unseen));
+        unseen.extend(parts.iter().flat_map(part::Report::unseen));
         for what in &unseen {
             println!("compare: {what} was never seen");
         }
@@ -203,11 +236,11 @@ impl Run {
             + texts.compared
             + sessions.lists
             + sessions.singles
-            + others.iter().map(part::Report::compared).sum::<u64>();
+            + parts.iter().map(part::Report::compared).sum::<u64>();
         let differences = self.differences
             + texts.differences
             + sessions.differences
-            + others.iter().map(part::Report::differences).sum::<u64>();
+            + parts.iter().map(part::Report::differences).sum::<u64>();
         println!("compare: {inputs} inputs, {differences} differences");
         differences == 0 && unseen.is_empty()
     }
