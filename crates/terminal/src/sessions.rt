@@ -29,10 +29,8 @@ pub extern "C" fn lachsbrille_session_offer(
 ) -> ClientStep
     ensures { λ r. ⌜ r ≡ outcome v (offerOf (valueOf v) size (length (now (staging .entry))) (length (now (kept .entry)))) ⌝ }
 {
-    if !client::is_known(v) {
-        return client::refuse(v);
-    }
-    client::give_step(session::offer(client::value_of(v), size, staging, kept))
+    let s = client::session_of(v);
+    client::give_client(v, session::offer(s, size, staging, kept))
 }
 
 // Takes a piece into staging.
@@ -44,10 +42,8 @@ pub extern "C" fn lachsbrille_session_transfer(
 ) -> ClientStep
     ensures { λ r. ⌜ (r ≡ outcome v (transferOf (valueOf v) (now (piece .entry)) (length (now (staging .entry))))) × (now (staging .exit) ≡ left v (stagingAfter (valueOf v) (now (piece .entry)) (now (staging .entry))) (now (staging .entry))) ⌝ }
 {
-    if !client::is_known(v) {
-        return client::refuse(v);
-    }
-    client::give_step(session::transfer(client::value_of(v), piece, staging))
+    let s = client::session_of(v);
+    client::give_client(v, session::transfer(s, piece, staging))
 }
 
 // Activates the pool that is offered, or else the one that is kept.
@@ -69,10 +65,8 @@ pub extern "C" fn lachsbrille_session_activate(
 pub extern "C" fn lachsbrille_session_deactivate(v: ClientSession) -> ClientStep
     ensures { λ r. ⌜ r ≡ outcome v (deactivateOf (valueOf v)) ⌝ }
 {
-    if !client::is_known(v) {
-        return client::refuse(v);
-    }
-    client::give_step(session::deactivate(client::value_of(v)))
+    let s = client::session_of(v);
+    client::give_client(v, session::deactivate(s))
 }
 
 // Forgets the pool that is kept, and an offer.
@@ -80,10 +74,8 @@ pub extern "C" fn lachsbrille_session_deactivate(v: ClientSession) -> ClientStep
 pub extern "C" fn lachsbrille_session_delete(v: ClientSession) -> ClientStep
     ensures { λ r. ⌜ r ≡ outcome v (deleteOf (valueOf v)) ⌝ }
 {
-    if !client::is_known(v) {
-        return client::refuse(v);
-    }
-    client::give_step(session::delete(client::value_of(v)))
+    let s = client::session_of(v);
+    client::give_client(v, session::delete(s))
 }
 
 // The connection is lost.
@@ -91,8 +83,6 @@ pub extern "C" fn lachsbrille_session_delete(v: ClientSession) -> ClientStep
 pub extern "C" fn lachsbrille_session_lost(v: ClientSession) -> ClientStep
     ensures { λ r. ⌜ r ≡ outcome v (lostOf (valueOf v)) ⌝ }
 {
-    if !client::is_known(v) {
-        return client::refuse(v);
-    }
-    client::give_step(session::lost(client::value_of(v)))
+    let s = client::session_of(v);
+    client::give_client(v, session::lost(s))
 }

@@ -60,7 +60,8 @@ use Rattle.client.proofs.ClientSession as D
 use Rattle.client.proofs.ClientSession.Laws as D′
 use Rattle.client.proofs.ClientStep as G
 use Rattle.client.proofs.ClientStep.Laws as G′
-use Rattle.terminal.proofs.Known.{outcome-in, kept-in, records-in}
+use Rattle.client.proofs.Known.{outcome-in}
+use Rattle.terminal.proofs.Known.{kept-in, records-in}
 use Rattle.client.proofs.session_of as make
 use Rattle.client.proofs.session_of.Symbol as make-def
 use Rattle.client.proofs.session_of.Symbol.{name as #make}
@@ -155,7 +156,7 @@ module _ {M : Type 1} (𝓤 : URA M) (H : Heap 𝓤) (A : Atoms 𝓤) (W : Given
 
   so : (s : Session) (r : Step) (h : ClientStep) (gs : List ℕ) (zs : List Record) → s ≡ sessionIn v → Activates s r gs zs → h ≡ outcome v (stepOf r) → Ends h gs zs
   so s r h gs zs e e′ e″ = (
-    e″ ∙ ap (outcome v) (e′ .0 ∙ ap (λ (u : Session). activateOf u p (length ks) (length ys)) e) ∙ outcome-in v p (length ks) (length ys),
+    e″ ∙ ap (outcome v) (e′ .0 ∙ ap (λ (u : Session). activateOf u p (length ks) (length ys)) e) ∙ outcome-in v (λ (u : Session). activateOf u p (length ks) (length ys)),
     e′ .1 ∙ ap (λ (u : Session). keptAfter u p ks (length ys)) e ∙ kept-in v p ks (length ys),
     e′ .2 ∙ ap (λ (u : Session). activatedRecords u p (length ks) ys) e ∙ records-in v p (length ks) ys,
   )

@@ -1,42 +1,26 @@
--- `terminal::sessions::lachsbrille_session_offer` meets its contract: the call's outcome for a value that is known. Assumes nothing.
-use mathlib.Core.Path.{sym, ap, _∙_}
-use borrow.Author.Tests.{not-true, not-false}
-use Rattle.client.specs.Sessions.{givenStep, outcome}
+-- `terminal::sessions::lachsbrille_session_offer` meets its contract: the call's outcome. Assumes nothing.
+use lib.ListN.{length}
+use denote.Ref.{now}
+use Rattle.session.specs.Calls.{offerOf}
+use Rattle.session.specs.declared.Session.{Session}
+use Rattle.client.proofs.Known.{given-in}
 use borrow.Author.Needs.{needs}
 use Rattle.terminal.proofs.sessions.lachsbrille_session_offer.Statement.{statement}
 use Rattle.terminal.proofs.sessions.lachsbrille_session_offer.Tie as tie
 
-is-known-requires : tie.Need-is-known-requires
-is-known-requires c κs = search needs
-
-refuse-requires : tie.Need-refuse-requires
-refuse-requires c κs = search needs
-
-returns : tie.Need-returns
-unfolding outcome
-returns c = rw (sym (c .before .before .is-known .ensures) ∙ not-true _ (c .before .if1 .taken)) (c .refuse .ensures)
-
-value-of-requires : tie.Need-value-of-requires
-value-of-requires c κs = search needs
+session-of-requires : tie.Need-session-of-requires
+session-of-requires c κs = search needs
 
 offer-requires : tie.Need-offer-requires
 offer-requires c κs = search needs
 
-give-step-requires : tie.Need-give-step-requires
-give-step-requires c κs = search needs
+give-client-requires : tie.Need-give-client-requires
+give-client-requires c κs = search needs
 
-returns-2 : tie.Need-returns-2
-unfolding outcome
-returns-2 c = rw (sym (c .before .before .before .before .is-known .ensures) ∙ not-false _ (c .before .before .before .if1 .left)) (c .give-step .ensures ∙ ap givenStep (rw (c .before .before .value-of .ensures) at (c .before .offer .ensures)))
+returns : tie.Need-returns
+returns c =
+    let x = c .before .before .before .before .before .args in
+    given-in _ (λ (s : Session). offerOf s (x .size) (length (now (x .staging))) (length (now (x .kept)))) _ _ _ (c .before .before .session-of .ensures) (c .before .offer .ensures) (c .give-client .ensures)
 
 pub lachsbrille-session-offer-spec : {M : Type 1} → statement M
-lachsbrille-session-offer-spec =
-    tie.close
-    (tie.spec
-    is-known-requires
-    refuse-requires
-    returns
-    value-of-requires
-    offer-requires
-    give-step-requires
-    returns-2)
+lachsbrille-session-offer-spec = tie.close (tie.spec session-of-requires offer-requires give-client-requires returns)
