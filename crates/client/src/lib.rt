@@ -28,7 +28,7 @@ pub struct ClientStep {
     pub item: u16,
 }
 
-fn is_known(v: ClientSession) -> bool
+pub fn is_known(v: ClientSession) -> bool
     ensures { λ r. ⌜ r ≡ isKnown v ⌝ }
 {
     (v.stage < 2) & (v.active < 2)
@@ -43,7 +43,7 @@ fn stage_in(n: u32) -> Stage
     Stage::Idle
 }
 
-fn value_of(v: ClientSession) -> Session
+pub fn value_of(v: ClientSession) -> Session
     ensures { λ r. ⌜ r ≡ valueOf v ⌝ }
 {
     let stage = stage_in(v.stage);
@@ -87,7 +87,7 @@ pub fn give(s: Session) -> ClientSession
     }
 }
 
-fn give_step(r: Step) -> ClientStep
+pub fn give_step(r: Step) -> ClientStep
     ensures { λ q. ⌜ q ≡ givenStep (stepOf r) ⌝ }
 {
     let s = r.session;
@@ -103,7 +103,7 @@ fn give_step(r: Step) -> ClientStep
     }
 }
 
-fn refuse(v: ClientSession) -> ClientStep
+pub fn refuse(v: ClientSession) -> ClientStep
     ensures { λ r. ⌜ r ≡ unknown v ⌝ }
 {
     ClientStep {

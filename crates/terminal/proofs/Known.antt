@@ -1,10 +1,10 @@
--- What a call leaves of the memory that it is lent, said of a C caller's value and not of the session that is asked in its place: a value with an unknown stage or mark is asked as one that can't arise, which leaves the areas and the table.
+-- What activating leaves of the memory that it is lent, said of a C caller's value and not of the session that is asked in its place: a value with an unknown stage or mark is asked as one that can't arise, which leaves the area and the table.
 -- Assumes nothing.
 use Prim.Native.Nat.{ℕ}
 use mathlib.Core.Bool.{Bool, true, false}
 use mathlib.Core.List.{List}
 use mathlib.Core.Path.{_≡_, refl, sym, ap}
-use Rattle.session.specs.Calls.{choose, impossible, transferOf, stagingAfter}
+use Rattle.session.specs.Calls.{choose, impossible}
 use Rattle.activation.specs.Activating.{isChecked, keptAfter, activatedRecords}
 use Rattle.working_table.specs.declared.Record.{Record}
 use Rattle.client.specs.Sessions.{isKnown, valueOf, left, sessionIn}
@@ -12,11 +12,7 @@ use Rattle.client.proofs.Known.{never, when-known, when-unknown}
 use Rattle.terminal.specs.Tables.{leftRecords}
 use Rattle.client.specs.declared.ClientSession.{ClientSession}
 
--- it is refused before a piece is stored, and before checking is reached
-unstored : (piece staging : List ℕ) → stagingAfter never piece staging ≡ staging
-unfolding stagingAfter transferOf impossible
-unstored piece staging = refl
-
+-- it is refused before checking is reached
 unchecked : (ls lk : ℕ) → isChecked never ls lk ≡ false
 unfolding isChecked impossible
 unchecked ls lk = refl
@@ -25,15 +21,6 @@ module _ (v : ClientSession) where
   area-left : isKnown v ≡ false → (after before : List ℕ) → left v after before ≡ before
   unfolding left
   area-left e after before = ap (λ (b : Bool). choose b after before) e
-
-  -- ---- staging
-  staging-by : (b : Bool) → isKnown v ≡ b → (piece staging : List ℕ) → stagingAfter (sessionIn v) piece staging ≡ left v (stagingAfter (valueOf v) piece staging) staging
-  unfolding left
-  staging-by true e piece staging = rw (when-known v e, e)
-  staging-by false e piece staging = rw (when-unknown v e, unstored) (sym (area-left e (stagingAfter (valueOf v) piece staging) staging))
-
-  pub staging-in : (piece staging : List ℕ) → stagingAfter (sessionIn v) piece staging ≡ left v (stagingAfter (valueOf v) piece staging) staging
-  staging-in = staging-by (isKnown v) refl
 
   -- ---- the kept area
   kept-by : (b : Bool) → isKnown v ≡ b → (staging kept : List ℕ) (room : ℕ) → keptAfter (sessionIn v) staging kept room ≡ left v (keptAfter (valueOf v) staging kept room) kept

@@ -33,7 +33,7 @@ pub extern "C" fn lachsbrille_session_offer(
     client::give_client(v, session::offer(s, size, staging, kept))
 }
 
-// Takes a piece into staging.
+// Takes a piece into staging. A pool may come in thousands of pieces, so the value is tested once.
 #[no_mangle]
 pub extern "C" fn lachsbrille_session_transfer(
     v: ClientSession,
@@ -42,8 +42,10 @@ pub extern "C" fn lachsbrille_session_transfer(
 ) -> ClientStep
     ensures { λ r. ⌜ (r ≡ outcome v (transferOf (valueOf v) (now (piece .entry)) (length (now (staging .entry))))) × (now (staging .exit) ≡ left v (stagingAfter (valueOf v) (now (piece .entry)) (now (staging .entry))) (now (staging .entry))) ⌝ }
 {
-    let s = client::session_of(v);
-    client::give_client(v, session::transfer(s, piece, staging))
+    if !client::is_known(v) {
+        return client::refuse(v);
+    }
+    client::give_step(session::transfer(client::value_of(v), piece, staging))
 }
 
 // Activates the pool that is offered, or else the one that is kept.

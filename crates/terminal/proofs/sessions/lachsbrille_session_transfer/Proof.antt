@@ -1,35 +1,46 @@
--- `terminal::sessions::lachsbrille_session_transfer` meets its contract: the call's outcome, and staging as it leaves it. Assumes nothing.
-use mathlib.Core.Path.{ap, _∙_}
-use lib.ListN.{length}
-use denote.Ref.{now}
-use Rattle.session.specs.Calls.{transferOf, stagingAfter}
-use Rattle.session.specs.declared.Session.{Session}
-use Rattle.client.proofs.Known.{given-in}
-use Rattle.terminal.proofs.Known.{staging-in}
+-- `terminal::sessions::lachsbrille_session_transfer` meets its contract: the call's outcome for a value that is known. Assumes nothing.
+use mathlib.Core.Path.{refl, sym, ap, _∙_}
+use borrow.Author.Tests.{not-true, not-false}
+use Rattle.client.specs.Sessions.{givenStep, outcome, left}
 use borrow.Author.Needs.{needs}
 use Rattle.terminal.proofs.sessions.lachsbrille_session_transfer.Statement.{statement}
 use Rattle.terminal.proofs.sessions.lachsbrille_session_transfer.Tie as tie
 
-session-of-requires : tie.Need-session-of-requires
-session-of-requires c κs = search needs
+is-known-requires : tie.Need-is-known-requires
+is-known-requires c κs = search needs
+
+refuse-requires : tie.Need-refuse-requires
+refuse-requires c κs = search needs
+
+returns : tie.Need-returns
+unfolding outcome left
+returns c = rw (sym (c .before .before .is-known .ensures) ∙ not-true _ (c .before .if1 .taken)) (c .refuse .ensures, refl)
+
+value-of-requires : tie.Need-value-of-requires
+value-of-requires c κs = search needs
 
 transfer-requires : tie.Need-transfer-requires
 transfer-requires c κs = search needs
 
-give-client-requires : tie.Need-give-client-requires
-give-client-requires c κs = search needs
+give-step-requires : tie.Need-give-step-requires
+give-step-requires c κs = search needs
 
 same-length : tie.Need-same-length
 same-length c = search needs
 
-returns : tie.Need-returns
-returns c =
-    let x = c .before .before .before .before .before .before .before .before .args in
-    let made = c .before .before .before .before .before .session-of .ensures in
-    let stored = c .before .before .before .transfer .ensures in (
-      given-in _ (λ (s : Session). transferOf s (now (x .piece)) (length (now (x .staging)))) _ _ _ made (stored .0) (c .give-client .ensures),
-      stored .1 ∙ ap (λ (s : Session). stagingAfter s (now (x .piece)) (now (x .staging))) made ∙ staging-in (x .v) (now (x .piece)) (now (x .staging)),
-    )
+returns-2 : tie.Need-returns-2
+unfolding outcome left
+returns-2 c = rw (sym (c .before .before .before .before .before .before .before .is-known .ensures) ∙ not-false _ (c .before .before .before .before .before .before .if1 .left)) (c .give-step .ensures ∙ ap givenStep (rw (c .before .before .before .before .before .value-of .ensures) at (c .before .before .before .transfer .ensures .0)), rw (c .before .before .before .before .before .value-of .ensures) at (c .before .before .before .transfer .ensures .1))
 
 pub lachsbrille-session-transfer-spec : {M : Type 1} → statement M
-lachsbrille-session-transfer-spec = tie.close (tie.spec session-of-requires transfer-requires give-client-requires same-length returns)
+lachsbrille-session-transfer-spec =
+    tie.close
+    (tie.spec
+    is-known-requires
+    refuse-requires
+    returns
+    value-of-requires
+    transfer-requires
+    give-step-requires
+    same-length
+    returns-2)
