@@ -20,7 +20,7 @@ use Rattle.activation.specs.Activating as Act
 use Rattle.session.specs.declared.Session.{Session}
 use Rattle.session.specs.declared.Stage.the-variants.{Offered}
 use Rattle.session.specs.declared.Step.{Step}
-use Rattle.session.proofs.Arising.{neither}
+use Rattle.wire.proofs.Either.{neither}
 use Rattle.book.specs.Book.{Said, Book, blank, Noted, noted, note, over, checked, firstIn, Call, offer, transfer, activate, deactivate, delete, lost}
 use Rattle.book.specs.Run.{stageOf, sessionOf, Starts, Does, does-offer, does-transfer, does-activate, does-deactivate, does-delete, does-lost}
 use Rattle.book.proofs.Good.{Good, possible, offered-stage, blank-good, over-good}

@@ -10,6 +10,7 @@ use borrow.Author.Tests.{eqb-true, eq-eqb, ne-eqb, not-false}
 use lib.Dec.{eqb}
 use lib.ListN.{length, getD, set, length-set}
 use lib.Seq.{getD-set-same, getD-set-other}
+use Rattle.wire.proofs.Either.{neither}
 use Rattle.naming.specs.Naming.{parentOf, climb}
 use Rattle.naming.specs.Lists.{shown, Ended}
 use Rattle.chains.specs.Steps.{Climbs, Doubles, Closed}
@@ -68,10 +69,6 @@ stored P ups r v l here q other = go (ℕ-discrete q r)
     go : Dec (q ≡ r) → P q (getD (set ups r v) q 0)
     go (yes e) = rw (e, getD-set-same ups r v 0 l) here
     go (no d) = rw (getD-set-other ups r q v 0 d) (other d)
-
-neither : (a b : Bool) → a || b ≡ false → (a ≡ false) × (b ≡ false)
-neither true b e = absurd (true≢false e)
-neither false b e = (refl, e)
 
 -- a round has not seen a chain end
 unended : (ended : Bool) (up next : ℕ) → ended || (not (eqb up 0) && eqb next 0) ≡ false → (ended ≡ false) × ((up ≡ 0 → ⊥) → next ≡ 0 → ⊥)

@@ -1,6 +1,6 @@
 -- Rule 12's walk: what stands in the list of DDIs seen, and what that says of the tags. Assumes nothing.
 use mathlib.Core.Path.{_≡_, refl, sym, ap, _∙_}
-use mathlib.Core.Bool.{Bool, true, false, not, _&&_, _||_, true≢false}
+use mathlib.Core.Bool.{Bool, true, false, _||_, true≢false}
 use mathlib.Core.Logic.{_⊎_, inl, inr, ⊎-elim}
 use mathlib.Core.List.{List}
 use Prim.Native.Nat.{ℕ, zero, suc, _+_, _<_, _≤_}
@@ -11,6 +11,7 @@ use borrow.Author.Tests.{eqb-true, eqb-false, ne-eqb}
 use lib.Dec.{eqb}
 use lib.ListN.{length, getD, set}
 use lib.Seq.{getD-set-same, getD-set-other}
+use Rattle.wire.proofs.Either.{neither}
 use Rattle.naming.specs.Naming.{among}
 use Rattle.rules.specs.Table.{doubled}
 use Rattle.rules.proofs.Truth.{either}
@@ -21,10 +22,6 @@ use Rattle.elements.specs.Lists.{Holds, Seen}
 
 pub holds-none : {l : List ℕ} {a x : ℕ} → Holds l a a x → ⊥
 holds-none h = omega (arith, h .after, h .before)
-
-neither : (a b : Bool) → a || b ≡ false → (a ≡ false) × (b ≡ false)
-neither true b h = absurd (true≢false h)
-neither false b h = (refl, h)
 
 -- whether x has been found before a place, and then one place further
 pub record Finding (l : List ℕ) (from k x : ℕ) (found : Bool) : Type 0 where

@@ -2,7 +2,7 @@
 use mathlib.Core.Path.{_≡_, refl, sym, ap, _∙_}
 use mathlib.Core.List.{List, [], _∷_, _++_}
 use Prim.Native.Nat.{ℕ, zero, suc, _+_, _-_, _≤_, _<_}
-use native.Mathlib.Nat.{zero-add, add-zero}
+use native.Mathlib.Nat.{zero-add}
 use native.Mathlib.Numerals.{add-one}
 use native.Mathlib.Omega.{arith}
 use lib.IntN.{ℤ, pos}
@@ -10,17 +10,11 @@ use lib.ListN.{length, getD, set, take, drop, length-append}
 use lib.Seq.{sets, drop-cons}
 use Rattle.wire.specs.Bytes.{bytesOf, bitsOf}
 use Rattle.wire.proofs.Width.{bytes-long}
+use Rattle.wire.proofs.Laid.{sets-behind}
 use Rattle.time_log.specs.Layout.{partWidth, placeOf}
 use Rattle.time_log.specs.Contents.{spaced}
 use Rattle.log_writing.specs.Writing.{fieldBits, bytesBefore, pairsFrom, recordBytes}
 use Rattle.time_log.specs.declared.Fields.{Fields}
-
-pub sets-behind : (xs ys d : List ℕ) (i : ℕ) → sets (sets d i xs) (i + length xs) ys ≡ sets d i (xs ++ ys)
-sets-behind [] ys d i = ap (λ (n : ℕ). sets d n ys) (add-zero i)
-sets-behind (x ∷ xs) ys d i = ap (λ (n : ℕ). sets (sets (set d i x) (suc i) xs) n ys) (further i (length xs)) ∙ sets-behind xs ys (set d i x) (suc i)
-  where
-    further : (i n : ℕ) → i + suc n ≡ suc i + n
-    further i n = omega arith
 
 pub before-long : (layout : ℕ) (f : Fields) (k : ℕ) → length (bytesBefore layout f k) ≡ placeOf layout k
 unfolding bytesBefore placeOf

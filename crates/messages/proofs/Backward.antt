@@ -20,7 +20,8 @@ use Rattle.messages.specs.Layout.{carriesValue, headBytes, valueBytes, a
 use Rattle.messages.specs.Reading.{Fields, valued, acknowledged, refused, choose, readOf}
 use Rattle.messages.specs.Writing.{valueRefusal, valueAfter, acknowledgeRefusal, acknowledgeAfter}
 use Rattle.messages.specs.Back.{Octets, ReadsBack}
-use Rattle.messages.proofs.Laying.{neither, command-small, first-eight}
+use Rattle.messages.proofs.Laying.{command-small, first-eight}
+use Rattle.wire.proofs.Either.{neither}
 use Rattle.messages.proofs.Octets.{again, signed-again, number-small, Eight, eight}
 
 -- ---- written, then read

@@ -1,25 +1,18 @@
 -- Bytes laid down one part behind the other. Assumes nothing.
 use mathlib.Core.Path.{_≡_, refl, sym, ap, _∙_}
 use mathlib.Core.Bool.{Bool, true, false, _&&_, _||_, true≢false}
-use mathlib.Core.List.{List, [], _∷_, _++_}
+use mathlib.Core.List.{List, _∷_, _++_}
 use Prim.Native.Nat.{ℕ, suc, _+_, _≤_, _<_}
 use native.Mathlib.Omega.{arith}
-use native.Mathlib.Nat.{zero-add, add-zero, add-assoc}
+use native.Mathlib.Nat.{zero-add}
 use borrow.Author.Tests.{le-leb, leb-true, eqb-true}
 use lib.Dec.{leb, eqb}
 use lib.ListN.{length, set, take, drop, length-set}
 use lib.Seq.{sets, sets-eq, length-sets, take-append-seam}
-use Rattle.wire.specs.Bytes.{bytesOf, laid, bitsOf}
+use Rattle.wire.specs.Bytes.{bytesOf, laid}
 use Rattle.wire.proofs.Width.{bytes-long}
-use Rattle.wire.proofs.Laid.{laid-fits}
+use Rattle.wire.proofs.Laid.{laid-fits, sets-behind}
 use Rattle.messages.specs.Layout.{carriesValue, headBytes}
-
-pub sets-behind : (xs ys d : List ℕ) (i : ℕ) → sets (sets d i xs) (i + length xs) ys ≡ sets d i (xs ++ ys)
-sets-behind [] ys d i = ap (λ (n : ℕ). sets d n ys) (add-zero i)
-sets-behind (x ∷ xs) ys d i = ap (λ (n : ℕ). sets (sets (set d i x) (suc i) xs) n ys) (further i (length xs)) ∙ sets-behind xs ys (set d i x) (suc i)
-  where
-    further : (i n : ℕ) → i + suc n ≡ suc i + n
-    further i n = omega arith
 
 head-long : (command element ddi : ℕ) → length (headBytes command element ddi) ≡ 4
 unfolding headBytes
@@ -50,10 +43,6 @@ value-laid to after command element ddi x h e =
 pub first-eight : (to bs : List ℕ) → length bs ≡ 8 → 8 ≤ length to → take 8 (sets to 0 bs) ≡ bs
 first-eight to bs n h =
     ap (λ (k : ℕ). take k (sets to 0 bs)) (sym n) ∙ ap (take (length bs)) (sets-eq bs to 0 (omega arith)) ∙ take-append-seam bs (drop (0 + length bs) to)
-
-pub neither : (a b : Bool) → (a || b) ≡ false → (a ≡ false) × (b ≡ false)
-neither true b e = absurd (true≢false e)
-neither false b e = (refl, e)
 
 -- a command that carries a value fits half a byte
 pub command-small : (c : ℕ) → carriesValue c ≡ true → c < 16

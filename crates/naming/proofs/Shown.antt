@@ -8,6 +8,7 @@ use native.Mathlib.Omega.{arith}
 use lib.ListN.{length, getD, drop, length-append, List·getD-append}
 use lib.Seq.{sets, sets-eq, ext-getD, getD-at}
 use Rattle.pool.specs.Reading.{Entry, width, numbers, flat}
+use Rattle.pool.proofs.Steps.{flat-long}
 use Rattle.naming.specs.Records.{noEntry, recordAt}
 use Rattle.naming.specs.Naming.{kindOf}
 use Rattle.naming.specs.Lists.{entryIn, shown, kindIn}
@@ -36,10 +37,6 @@ shown-kind table n zero h = refl
 shown-kind table n (suc i) h = ap (λ (e : Entry). e .kind) (shown-at table n i h)
 
 -- the numbers of a list of entries, and the entries that they show
-flat-long : (es : List Entry) → length (flat es) ≡ length es * width
-flat-long [] = refl
-flat-long (e ∷ es) = let rest = flat-long es in omega arith
-
 behind-first : (e : Entry) (l : List ℕ) (i k : ℕ) → getD (numbers e ++ l) (suc i * width + k) 0 ≡ getD l (i * width + k) 0
 behind-first e l i k =
     let s : suc i * width + k ≡ suc (suc (suc (suc (i * width + k)))) = omega arith in

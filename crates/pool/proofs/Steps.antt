@@ -126,6 +126,11 @@ at-end p at h m = go (decLt at (length p))
     go (yes l) = let x = next-of p at [] l m in let z : _≡_ {A = ℕ} 0 1 = cc (x .first) in absurd (omega arith)
     go (no l) = omega arith
 
+-- the numbers of a list of entries are so many
+pub flat-long : (es : List Entry) → length (flat es) ≡ length es * width
+flat-long [] = refl
+flat-long (e ∷ es) = let rest = flat-long es in omega arith
+
 -- an entry and those behind it, laid over a table
 pub sets-entry : (table : List ℕ) (n : ℕ) (e : Entry) (es : List Entry)
     → sets table (n * width) (flat (e ∷ es)) ≡ sets (sets table (n * width) (numbers e)) ((n + 1) * width) (flat es)

@@ -1,6 +1,6 @@
 -- What holds of a value that can arise. Assumes nothing.
 use mathlib.Core.List.{List}
-use mathlib.Core.Path.{_≡_, refl, sym}
+use mathlib.Core.Path.{_≡_, sym}
 use mathlib.Core.Bool.{Bool, true, false, not, _&&_, _||_, true≢false}
 use Prim.Native.Nat.{ℕ, _≤_}
 use native.Mathlib.Omega.{arith}
@@ -8,12 +8,9 @@ use borrow.Author.Tests.{ltb-false, eqb-false}
 use lib.Dec.{eqb, ltb}
 use lib.ListN.{length, take}
 use lib.Seq.{length-take-le}
+use Rattle.wire.proofs.Either.{neither}
 use Rattle.session.specs.Calls.{isOffered, impossible}
 use Rattle.session.specs.declared.Session.{Session}
-
-pub neither : (a b : Bool) → (a || b) ≡ false → (a ≡ false) × (b ≡ false)
-neither true b e = absurd (true≢false e)
-neither false b e = (refl, e)
 
 not-both : (a b : Bool) → (a && b) ≡ false → a ≡ true → b ≡ false
 not-both true b e q = e

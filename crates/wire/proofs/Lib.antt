@@ -2,3 +2,4 @@
 pub mod Width
 pub mod Complement
 pub mod Laid
+pub mod Either

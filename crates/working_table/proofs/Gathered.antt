@@ -14,7 +14,7 @@ use Rattle.pool.specs.Reading.{Entry, width, numbers, flat, scanOf, entriesIn, 
 use Rattle.pool.specs.Walk.{ListsIf}
 use Rattle.pool.specs.declared.Outcome.{Outcome}
 use Rattle.pool.specs.declared.Outcome.the-variants.{Records, Empty, TooLong, NoMark, Cut, LengthOver, TooMany, TableShort}
-use Rattle.pool.proofs.Steps.{sets-entry}
+use Rattle.pool.proofs.Steps.{sets-entry, flat-long}
 use Rattle.pool.proofs.Judged.{read-counted, read-few}
 use Rattle.working_table.specs.declared.Record.{Record}
 use Rattle.working_table.specs.Table.{recordOf, blank, recordsAfter}
@@ -57,10 +57,6 @@ sets-at (v ∷ vs) l i (suc k) fits h =
     let next : i + suc k ≡ suc i + k = omega arith in
     let long = length-set l i v in
     ap (λ (j : ℕ). getD (sets (set l i v) (suc i) vs) j 0) next ∙ sets-at vs (set l i v) (suc i) k (omega arith) (omega arith)
-
-flat-long : (es : List Entry) → length (flat es) ≡ length es * width
-flat-long [] = refl
-flat-long (e ∷ es) = let rest = flat-long es in omega arith
 
 -- rows that hold entries from place i on have the first of them as row i
 row-laid : (rows : List ℕ) (i : ℕ) (e : Entry) (es : List Entry) → (i + length (e ∷ es)) * width ≤ length rows → rowIn (sets rows (i * width) (flat (e ∷ es))) i ≡ recordOf e

@@ -9,7 +9,8 @@ use lib.ListN.{length}
 use lib.Seq.{length-sets}
 use Rattle.messages.specs.Layout.{headBytes, acknowledgeBytes, acknowledge}
 use Rattle.messages.specs.Writing.{acknowledgeRefusal, acknowledgeAfter}
-use Rattle.messages.proofs.Laying.{behind-head, neither}
+use Rattle.messages.proofs.Laying.{behind-head}
+use Rattle.wire.proofs.Either.{neither}
 use borrow.Author.Needs.{needs}
 use Rattle.messages.proofs.write_acknowledge.Statement.{statement}
 use Rattle.messages.proofs.write_acknowledge.Tie as tie

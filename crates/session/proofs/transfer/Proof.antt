@@ -9,7 +9,8 @@ use lib.Dec.{eqb, ltb}
 use lib.ListN.{length, take, drop}
 use Rattle.session.specs.Calls.{impossible, transferOf, stagingAfter}
 use Rattle.session.specs.declared.Session.{Session}
-use Rattle.session.proofs.Arising.{neither, within, small}
+use Rattle.session.proofs.Arising.{within, small}
+use Rattle.wire.proofs.Either.{neither}
 use Rattle.session.proofs.Pieces.{put-back}
 use borrow.Author.Needs.{needs}
 use Rattle.session.proofs.transfer.Statement.{statement}
