@@ -158,8 +158,9 @@ fn crowded_ids(count: usize) -> Vec<Object> {
 /// first with its remainder that is looked for last, and then the first of
 /// them as often as it fits.
 fn deepest(bytes: usize, ddi: impl Fn(usize) -> usize) -> Vec<Object> {
-    let count = of_one_remainder(DDI_HEADS);
-    let entries = (bytes - DEVICE - ELEMENT - DATA * count) / ENTRY;
+    let room = bytes - DEVICE - ELEMENT;
+    let count = of_one_remainder(DDI_HEADS).min(room / (2 * DATA));
+    let entries = (room - DATA * count) / ENTRY;
     listing(
         count,
         entries,
