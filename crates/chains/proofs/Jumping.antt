@@ -245,3 +245,12 @@ module _ (p : List ℕ) (es : List Entry) (m : ℕ) (ups : List ℕ) (climbs : C
   closed-ends s o after on stay r l =
       let d = on r l in
       (λ (e : getD after r 0 ≡ 0). ended (parentOf p es) (length es) (parent-zero p es) within r (d .0) l (sym (d .2) ∙ e), λ (e : climb (parentOf p es) (length es) r ≡ 0). stay r l (open-on s o (length es) (length es) r (omega arith) l e))
+
+-- what stands under the numbers tells whether the chains end
+pub ended-same : (p : List ℕ) (es : List Entry) (ups : List ℕ) → Ended p es ups → (r : ℕ) → r ≤ length es
+    → not (eqb (getD ups r 0) 0) ≡ not (eqb (climb (parentOf p es) (length es) r) 0)
+ended-same p es ups ended r l = go (ℕ-discrete (getD ups r 0) 0)
+  where
+    go : Dec (getD ups r 0 ≡ 0) → not (eqb (getD ups r 0) 0) ≡ not (eqb (climb (parentOf p es) (length es) r) 0)
+    go (yes e) = ap not (eq-eqb (getD ups r 0) 0 e ∙ sym (eq-eqb (climb (parentOf p es) (length es) r) 0 (ended r l .0 e)))
+    go (no d) = ap not (ne-eqb (getD ups r 0) 0 d ∙ sym (ne-eqb (climb (parentOf p es) (length es) r) 0 (λ (e : climb (parentOf p es) (length es) r ≡ 0). d (ended r l .1 e))))

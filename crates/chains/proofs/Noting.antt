@@ -10,12 +10,16 @@ use lib.Dec.{eqb, ltb}
 use lib.ListN.{length, getD}
 use Rattle.marks.specs.Bits.{bitAt}
 use Rattle.marks.proofs.Marking.{blank-bits}
+use Rattle.views.specs.Fields.{elementOf}
+use Rattle.pool.specs.Reading.{Entry}
+use Rattle.naming.specs.Records.{startAt, kindAt}
 use Rattle.naming.specs.Naming.{firstOf}
 use Rattle.naming.specs.Lists.{Blank}
 use Rattle.naming.specs.Chained.{opens}
 use Rattle.naming.proofs.First.{first-other, first-kept, first-here}
 use Rattle.naming.proofs.Chained.{opens-first}
-use Rattle.rules.specs.Table.{repeats}
+use Rattle.rules.specs.Table.{repeats, elementKey}
+use Rattle.rules.proofs.Repeats.{element-key}
 use Rattle.chains.specs.Noted.{Noted, Marked}
 
 -- a list with one number marked more
@@ -57,6 +61,25 @@ module _ (bound : ℕ) (key : ℕ → ℕ) where
           go (no d) =
               adds y (omega arith) ∙ rw (ne-eqb y x d)
               (noted y l ∙ ap (λ (r : ℕ). not (eqb r 0)) (sym (first-other key (suc y) i (λ (q : key i ≡ suc y). d (omega (arith, has, q))))))
+
+-- ---- the numbers of device elements
+
+module _ (bound : ℕ) (p : List ℕ) (es : List Entry) (i : ℕ) (numbers : List ℕ) (noted : Noted bound (elementKey p es) i numbers) where
+  -- another record has none
+  pub element-passed : (kindAt es i ≡ 2 → ⊥)
+      → (false ≡ (eqb (kindAt es i) 2 && repeats (elementKey p es) (elementKey p es i) i (length es))) × Noted bound (elementKey p es) (i + 1) numbers
+  element-passed k = (rw (ne-eqb (kindAt es i) 2 k), noted-other bound (elementKey p es) i numbers noted (rw (ne-eqb (kindAt es i) 2 k)))
+
+  module _ (x : ℕ) (own : kindAt es i ≡ 2) (is : x ≡ elementOf p (startAt es i) .number) where
+    has : elementKey p es i ≡ suc x
+    has = element-key p es i own ∙ ap suc (sym is)
+
+    pub element-repeats : x < bound → i < length es
+        → bitAt numbers x ≡ (eqb (kindAt es i) 2 && repeats (elementKey p es) (elementKey p es i) i (length es))
+    element-repeats l b = noted-repeats bound (elementKey p es) i numbers noted x has l (length es) b ∙ rw (eq-eqb (kindAt es i) 2 own)
+
+    pub element-noted : bound ≤ 8 * length numbers → (after : List ℕ) → Adds numbers x after → Noted bound (elementKey p es) (i + 1) after
+    element-noted room after adds = noted-more bound (elementKey p es) i numbers noted x has room after adds
 
 -- ---- marks under records
 
