@@ -3,17 +3,17 @@ use mathlib.Core.Path.{_≡_, refl, sym, ap, _∙_}
 use mathlib.Core.Logic.{⊎-elim}
 use mathlib.Core.Bool.{Bool, true, false}
 use mathlib.Core.List.{List, [], _∷_, map}
-use Prim.Native.Nat.{ℕ, zero, suc, _+_, _*_, _/_, _≤_, _<_}
+use Prim.Native.Nat.{ℕ, zero, suc, _+_, _*_, _≤_, _<_}
 use native.Mathlib.Omega.{arith}
 use borrow.Author.Tests.{lt-ltb, le-ltb, eq-eqb, ne-eqb, eqb-false, ltb-false}
 use denote.Enum.Declared.{tagOf}
 use lib.Dec.{eqb, ltb}
-use lib.ListN.{length}
-use lib.Seq.{sets}
+use lib.ListN.{length, take}
+use lib.Seq.{length-take-le}
 use types.Run.{OneOf}
 use Rattle.pool.specs.Answer.{Answer, answer, answerOf}
-use Rattle.pool.specs.Reading.{Entry, width, flat, Cause, unmarked, cut, over, causeNumber, Scan, records, refused, scanOf, entriesIn, pick, counted, readOf}
-use Rattle.pool.specs.Walk.{countFrom, ListsIf, Reaches, Listed}
+use Rattle.pool.specs.Reading.{Entry, Cause, unmarked, cut, over, causeNumber, Scan, records, refused, scanOf, entriesIn, pick, counted, readOf}
+use Rattle.pool.specs.Walk.{countFrom, entriesOf, Starts, Listed}
 use Rattle.pool.specs.declared.Outcome.{Outcome}
 use Rattle.pool.specs.declared.Outcome.the-variants.{Records, Empty, TooLong, NoMark, Cut, LengthOver, TooMany, TableShort}
 use Rattle.pool.proofs.Outcome.{the-type}
@@ -117,21 +117,18 @@ read-few p room n e =
     omega (arith, k .count, few-records p (entriesIn (scanOf p)) (k .scanned))
 
 -- a refusal lists nothing
-pub unlisted : (number : ℕ) (s : Scan) (before after : List ℕ) (a : Answer) → a ≡ answer (suc number) 0 → ListsIf (a .number) s before after
-unlisted number s before after a e z =
-    let n : a .number ≡ suc number = ap (λ (x : Answer). x .number) e in
-    absurd (omega arith)
+pub unlisted : (p : List ℕ) (room : ℕ) (starts : List ℕ) → (readOf p room .number ≡ 0 → ⊥) → Listed p room starts
+unfolding Listed
+unlisted p room starts h z = absurd (h z)
 
--- a list that reaches for every record holds those of a pool that is read
-pub reached : (p list : List ℕ) (room n : ℕ) → Reaches list p → answer 0 n ≡ readOf p room → n * width ≤ length list
-reached p list room n r e =
-    let k = read-counted p room n e in
-    omega (arith, read-few p room n e, r (k .short))
-
-pub listed : (p : List ℕ) (room : ℕ) (before after : List ℕ) → Reaches before p → ListsIf (readOf p room .number) (scanOf p) before after
-    → Listed p room before after
-listed p room before after r f z =
+-- a walk that lists the starts of the records it reads lists them for reading
+pub listed : (p : List ℕ) (room : ℕ) (starts : List ℕ) → Starts p starts → Listed p room starts
+unfolding Listed Starts
+listed p room starts s z =
     let n = readOf p room .value in
-    let e : answer 0 n ≡ readOf p room = ap (λ (k : ℕ). answer k n) (sym z) in
-    let k = read-counted p room n e in
-    f z (entriesIn (scanOf p)) (k .scanned) (omega (arith, k .count, reached p before room n r e))
+    let k = read-counted p room n (ap (λ (a : ℕ). answer a n) (sym z)) in
+    let l = s (entriesIn (scanOf p)) (k .scanned) in
+    let many : suc (length (entriesIn (scanOf p))) ≡ n + 1 = omega (arith, k .count) in
+    let is : entriesOf p (take (n + 1) starts) ≡ entriesIn (scanOf p) = ap (λ (m : ℕ). entriesOf p (take m starts)) (sym many) ∙ l .1 in
+    let room-left : n < length starts = omega (arith, l .0, k .count) in
+    (room-left, record { some = rw (length-take-le (n + 1) starts (omega arith)) (omega arith); short = k .short; divides = k .scanned ∙ ap records (sym is) })

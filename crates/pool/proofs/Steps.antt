@@ -1,18 +1,17 @@
 -- The walk over a pool's records, turn by turn. Assumes nothing.
 use mathlib.Core.Path.{_≡_, refl, sym, ap, subst, _∙_}
-use mathlib.Core.List.{List, [], _∷_, _++_}
+use mathlib.Core.List.{List, [], _∷_}
 use Prim.Native.Nat.{ℕ, zero, suc, _+_, _*_, _≤_, _<_}
 use native.Mathlib.Omega.{arith}
 use borrow.Author.Tests.{lt-ltb, le-ltb}
 use native.Mathlib.Decide.{decLt}
 use lib.ListN.{length}
-use lib.Seq.{sets}
 use Rattle.records.specs.Extents.{extentOf}
 use Rattle.records.specs.declared.Extent.{Extent}
 use Rattle.records.specs.declared.Extent.the-variants.{Ends, NoMark, Cut, LengthOver}
 use Rattle.records.proofs.Range.{extent-ends}
 use Rattle.pool.specs.Answer.{Answer, answer}
-use Rattle.pool.specs.Reading.{Entry, width, numbers, flat, entryAt, Cause, unmarked, cut, over, causeNumber, Scan, records, refused, onto, turn, scanFrom, scanOf}
+use Rattle.pool.specs.Reading.{Entry, entryAt, Cause, unmarked, cut, over, causeNumber, Scan, records, refused, onto, turn, scanFrom, scanOf}
 use Rattle.pool.specs.Walk.{countFrom}
 
 pub scan-turn : (t : ℕ) (p : List ℕ) (at : ℕ) → at < length p → scanFrom (suc t) p at ≡ turn (scanFrom t p) p at (extentOf p at)
@@ -125,18 +124,6 @@ at-end p at h m = go (decLt at (length p))
     go : Dec (at < length p) → at ≡ length p
     go (yes l) = let x = next-of p at [] l m in let z : _≡_ {A = ℕ} 0 1 = cc (x .first) in absurd (omega arith)
     go (no l) = omega arith
-
--- the numbers of a list of entries are so many
-pub flat-long : (es : List Entry) → length (flat es) ≡ length es * width
-flat-long [] = refl
-flat-long (e ∷ es) = let rest = flat-long es in omega arith
-
--- an entry and those behind it, laid over a table
-pub sets-entry : (table : List ℕ) (n : ℕ) (e : Entry) (es : List Entry)
-    → sets table (n * width) (flat (e ∷ es)) ≡ sets (sets table (n * width) (numbers e)) ((n + 1) * width) (flat es)
-sets-entry table n e es =
-    let z : suc (suc (suc (suc (n * width)))) ≡ (n + 1) * width = omega arith in
-    ap (λ (i : ℕ). sets (sets table (n * width) (numbers e)) i (flat es)) z
 
 -- a record takes at least twelve bytes, so a pool has at most a twelfth as many records
 pub few-left : (p : List ℕ) (rs : List Entry) (at : ℕ) → at ≤ length p → Remaining p at rs → at + 12 * length rs ≤ length p

@@ -1,12 +1,11 @@
 // Reading a pool: whether it divides into records, and the working table. Every public function takes any bytes and any table.
 use records::Extent;
 ghost use mathlib.Core.Path.{_≡_};
-ghost use Prim.Native.Nat.{_+_, _*_, _≤_, _<_};
+ghost use Prim.Native.Nat.{_*_, _<_};
 ghost use lib.ListN.{length};
-ghost use lib.Seq.{sets};
 ghost use Rattle.pool.specs.Answer.{answerOf, recordsIn};
-ghost use Rattle.pool.specs.Reading.{width, numbers, entryAt, scanOf, readOf};
-ghost use Rattle.pool.specs.Walk.{countFrom, noted, Lists, ListsIf};
+ghost use Rattle.pool.specs.Reading.{scanOf, readOf};
+ghost use Rattle.pool.specs.Walk.{countFrom, Starts, Reaches, Listed};
 
 // What reading answers: the count of records, or why the pool is refused and where. The refusals stand in the order of their
 // numbers, 1 to 7.
@@ -21,38 +20,10 @@ pub enum Outcome {
     TableShort(usize),
 }
 
-// The numbers of an entry in a table of numbers: start, length, kind, ID.
-pub const WIDTH: usize = 4;
-
-// Writes entry n.
-fn put_entry(table: &mut [u16], n: usize, start: u16, size: u16, kind: u16, id: u16)
-    requires { ⌜ n * width + width ≤ length (now table) ⌝ }
-    ensures { λ _. ⌜ now (table .exit) ≡ sets (now (table .entry)) (n * width) (numbers (record { start = start; size = size; kind = kind; id = id })) ⌝ }
-{
-    let i = n * WIDTH;
-    table[i] = start;
-    table[i + 1] = size;
-    table[i + 2] = kind;
-    table[i + 3] = id;
-}
-
-// Notes the record from a place up to another as entry n, where the list reaches so far.
-fn note(p: &[u8], table: &mut [u16], n: usize, at: usize, end: usize)
-    requires { ⌜ (at ≤ end) × (end < 65536) ⌝ }
-    ensures { λ _. ⌜ now (table .exit) ≡ noted (now (table .entry)) n (entryAt (now (p .entry)) at end) ⌝ }
-{
-    if n < table.len() / WIDTH {
-        let start = at as u16;
-        let kind = records::view::kind(p, start);
-        let id = records::view::id(p, start);
-        put_entry(table, n, start, (end - at) as u16, kind, id);
-    }
-}
-
-// Walks over the records: their count, or the earliest bad one. It lists each record as it passes.
-fn scan(p: &[u8], table: &mut [u16]) -> Outcome
-    requires { ⌜ length (now p) < 65536 ⌝ }
-    ensures { λ r. ⌜ (answerOf r ≡ countFrom 0 (scanOf (now (p .entry)))) × Lists (scanOf (now (p .entry))) (now (table .entry)) (now (table .exit)) ⌝ }
+// Walks over the records: their count, or the earliest bad one. It lists where each starts, and behind them where the last ends.
+fn scan(p: &[u8], starts: &mut [u16]) -> Outcome
+    requires { ⌜ (length (now p) < 65536) × (length (now p) < 12 * length (now starts)) ⌝ }
+    ensures { λ r. ⌜ (answerOf r ≡ countFrom 0 (scanOf (now (p .entry)))) × Starts (now (p .entry)) (now (starts .exit)) ⌝ }
 {
     let mut at: usize = 0;
     let mut n: usize = 0;
@@ -60,7 +31,7 @@ fn scan(p: &[u8], table: &mut [u16]) -> Outcome
         let extent = records::record_extent(p, at);
         match extent {
             Extent::Ends(end) => {
-                note(p, table, n, at, end);
+                starts[n] = at as u16;
                 at = end;
                 n += 1;
             }
@@ -75,13 +46,15 @@ fn scan(p: &[u8], table: &mut [u16]) -> Outcome
             }
         }
     }
+    starts[n] = at as u16;
     Outcome::Records(n)
 }
 
-// Whether a pool is read, given how many entries a table has. Its records are listed as numbers, one walk for both; a list
-// that is long enough then starts with them. After a refusal the list is free.
-pub fn list_for(p: &[u8], room: usize, rows: &mut [u16]) -> Outcome
-    ensures { λ r. ⌜ (answerOf r ≡ readOf (now (p .entry)) room) × ListsIf (readOf (now (p .entry)) room .number) (scanOf (now (p .entry))) (now (rows .entry)) (now (rows .exit)) ⌝ }
+// Whether a pool is read, given how many entries a table has. Its records are listed by their starts, one walk for both, in a list
+// that reaches for every record. After a refusal the list is free.
+pub fn list_for(p: &[u8], room: usize, starts: &mut [u16]) -> Outcome
+    requires { ⌜ Reaches (now starts) (now p) ⌝ }
+    ensures { λ r. ⌜ (answerOf r ≡ readOf (now (p .entry)) room) × Listed (now (p .entry)) room (now (starts .exit)) ⌝ }
 {
     if p.len() == 0 {
         return Outcome::Empty;
@@ -89,7 +62,7 @@ pub fn list_for(p: &[u8], room: usize, rows: &mut [u16]) -> Outcome
     if 65535 < p.len() {
         return Outcome::TooLong;
     }
-    let walked = scan(p, rows);
+    let walked = scan(p, starts);
     match walked {
         Outcome::Records(count) => {
             if 8192 < count {
