@@ -23,7 +23,7 @@ use denote.Laws.{Is, shows, Makes}
 use denote.Plain.{uint-makes}
 use denote.Builtin.{u8, u16, usize, unit}
 use denote.Ref.{RefT}
-use denote.Slice.{sliceVal, MutSlice, ShrSlice, finally}
+use denote.Slice.{sliceVal, MutSlice, ShrSlice, finally, shr-slice-copy}
 use denote.Signature.{Signature, plain, shrSliceOf, mutSliceOf}
 use denote.Triple.End.{lastsOf}
 use denote.Steps.{owned, facts, heard, nothing}
@@ -66,6 +66,15 @@ POwn κ x = ShrSlice (named 0) κ u8 .own x (sliceVal (x .ptr) (length (x .now))
 
 abbrev pub ROwn : Lft → RefT (List ℕ) → Fml
 ROwn κ x = ShrSlice (named 0) κ u16 .own x (sliceVal (x .ptr) (length (x .now)) ∷ [])
+
+-- what the pool owns is copied, where it stands first, and where something stands before it
+pub pool-copied : {M : Type 1} (𝓤 : URA M) (H : Heap 𝓤) (A : Atoms 𝓤) (W : Given 𝓤 H A) (κ : Lft) (x : RefT (List ℕ)) (B X : Fml) → ent 𝓤 (sem 𝓤 H A (fsep (fsep (POwn κ x) B) X)) (sem 𝓤 H A (fsep (POwn κ x) (fsep (fsep (POwn κ x) B) X)))
+pool-copied 𝓤 H A W κ x B X =
+    qed W (‵ (fsep (fsep (POwn κ x) B) X) ∷ []) ∵ fsplit ! $ fsplit ! $ use1 W (‵ (POwn κ x) ⊛ ‵ (POwn κ x)) (shr-slice-copy 𝓤 H A W (named 0) κ u8 .twice x (sliceVal (x .ptr) (length (x .now)) ∷ [])) $ split ! $ move ! (1 ∷ 2 ∷ []) $ fjoin ! $ move ! (0 ∷ 2 ∷ []) $ fjoin ! $ move ! (1 ∷ 0 ∷ []) $ fjoin ! $ done !
+
+pub copied-behind : {M : Type 1} (𝓤 : URA M) (H : Heap 𝓤) (A : Atoms 𝓤) (W : Given 𝓤 H A) (F P B X : Fml) → ent 𝓤 (sem 𝓤 H A (fsep B X)) (sem 𝓤 H A (fsep P (fsep B X))) → ent 𝓤 (sem 𝓤 H A (fsep (fsep F B) X)) (sem 𝓤 H A (fsep P (fsep (fsep F B) X)))
+copied-behind 𝓤 H A W F P B X copied =
+    qed W (‵ (fsep (fsep F B) X) ∷ []) ∵ fsplit ! $ fsplit ! $ move ! (1 ∷ 2 ∷ []) $ fjoin ! $ use1 W (‵ (fsep P (fsep B X))) copied $ fsplit ! $ move ! (1 ∷ []) $ fsplit ! $ move ! (3 ∷ 0 ∷ []) $ fjoin ! $ fjoin ! $ move ! (1 ∷ 0 ∷ []) $ fjoin ! $ done !
 
 -- the function that fills the table from a list that is lent to it by `&`: it gets the tokens, and what can be copied of the other parameters
 module _ {M : Type 1} (𝓤 : URA M) (H : Heap 𝓤) (A : Atoms 𝓤) (R : RattleType) (κ′ : Lft) (q′ : Share) (b o : ℕ) (γ : GName) (ys : List (R .Denot)) (Toks : SProp 𝓤) where

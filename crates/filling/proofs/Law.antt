@@ -259,7 +259,7 @@ module _ {M : Type 1} (𝓤 : URA M) (H : Heap 𝓤) (A : Atoms 𝓤) (W : Given
   Core-known #core = (κs : Lfts (suc n)) (qs : Shares (suc n)) (a : Args S κs) (l ν : ℕ) (δ : GName)
       → ent 𝓤 (Core-pre κs qs a l ν δ) (C #core (vs₀ κs qs a ++ (vint w64 (length (t κs qs a .now)) ∷ sliceVal (l, 0) N ∷ vs₁ κs qs a)) (Core-post κs qs a l ν δ))
 
-  abbrev Are-all : (κs : Lfts (suc n)) → Args S κs → Type 0
+  abbrev pub Are-all : (κs : Lfts (suc n)) → Args S κs → Type 0
   Are-all κs a = Are (typesAt (bs ++ us) κs) (Ises (typesAt (bs ++ us) κs)) a (valss (typesAt (bs ++ us) κs) (spells (typesAt (bs ++ us) κs) (all-held κs)) a)
 
   pub fills-table : (f : Fn) (#core #count #fill #answer : Name) (ls : List Line) → f .body ≡ code ls

@@ -8,3 +8,4 @@ pub mod Filling
 pub mod Parameters
 pub mod Law
 pub mod Choice
+pub mod First
