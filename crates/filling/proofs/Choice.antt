@@ -34,7 +34,7 @@ use Rattle.filling.proofs.Straight.{Line, Script, ends, queries, script
 use Rattle.filling.proofs.Entry.{begun, Passed, Everywhere, mapped, choice, goes-either}
 use Rattle.filling.proofs.Parameters.{Holds, spells, held, flat-held}
 use Rattle.filling.proofs.Calls.{asking}
-use Rattle.filling.proofs.Law.{Carried}
+use Rattle.filling.proofs.Carried.{Carried}
 
 abbrev pub passing : (n : ℕ) → List (Slot n) → RattleType → Signature
 passing n us R = record { lifetimes = n; outlives = []; params = us; result = plain (λ _. R) }

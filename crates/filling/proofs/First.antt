@@ -32,7 +32,8 @@ use denote.Exit.{yes}
 use Rattle.filling.proofs.Straight.{Line, code}
 use Rattle.filling.proofs.Parameters.{Holds, spells}
 use Rattle.filling.proofs.Calls.{Unary, PoolFilling, pool-copied}
-use Rattle.filling.proofs.Law.{Carried, Coded, Are-all, Core-known, pool-slot, slice-cell, fills-table}
+use Rattle.filling.proofs.Carried.{Carried}
+use Rattle.filling.proofs.Law.{Coded, Are-all, Core-known, pool-slot, slice-cell, fills-table}
 use Rattle.filling.proofs.Choice.{passing, stating}
 
 abbrev pub values : List Ty → List Local

@@ -22,7 +22,7 @@ use sound.WpLaws.{FmC}
 use types.Kit.{Given, ‵, _⊛_, _$_, _∵_, !, qed, move, use1, split, fsplit, fjoin, done}
 use denote.RattleType.{RattleType, Denots, Valss, owns, flat}
 use denote.Memory.{pointee}
-use denote.Laws.{Is, Are, Ises, valss, Tellss, Makes}
+use denote.Laws.{Are, Ises, valss, Tellss}
 use denote.Builtin.{u8, u16, usize}
 use denote.Plain.{uint-lawful}
 use denote.Ref.{RefT}
@@ -40,6 +40,7 @@ use Rattle.filling.proofs.Cells.{Cell, slice, value, Typed}
 use Rattle.filling.proofs.Straight.{array, Line, Script, fills, takes, gives, counts-of, lends-on, slices, asks, code, script, meaning, Fine}
 use Rattle.filling.proofs.Entry.{begun, Passed, Everywhere, mapped, goes-straight}
 use Rattle.filling.proofs.Parameters.{Holds, spells, held, flat-held, kapp, happ, fore, aft, are-aft, fins, Fins-to, fore-w, aft-w, lasts-to, owns-to, shareAt, swaps, toks-with, toks-but, toks-out, toks-in, toks-at, owns-apart, lasts-apart, lasts-joined, owns-joined}
+use Rattle.filling.proofs.Carried.{Carried}
 use Rattle.filling.proofs.Calls.{Unary, Fills, PoolFilling, POwn, by-pool}
 use Rattle.filling.proofs.Filling.{Orders, filled-as, fill-script}
 
@@ -62,13 +63,6 @@ slice-cell x = slice (x .ptr .0) (x .ptr .1) (length (x .now))
 pub list-typed : {M : Type 1} (𝓤 : URA M) (H : Heap 𝓤) (A : Atoms 𝓤) → Given 𝓤 H A → (N : ℕ) → Typed (tyArray (tyInt w16) N) (array w16 0 N)
 unfolding array
 list-typed 𝓤 H A W N = repeats-typed u16 0 (vint w16 0) (refl, lit< tt) (uint-lawful 𝓤 H A W w16 .typed) N
-
--- a type whose values go by themselves: its row, its type in MIR, and that what it owns is had for nothing
-pub record Carried {M : Type 1} (𝓤 : URA M) (H : Heap 𝓤) (A : Atoms 𝓤) : Type 2 where
-  pub row : RattleType
-  pub mir : Ty
-  pub makes : Makes 𝓤 H A row (Is row)
-  pub typed : (x : row .Denot) (w : Val) → Is row x (w ∷ []) → Typed mir w
 
 -- n lifetimes, of which the table's is j
 module _ (R : RattleType) (n j : ℕ) (ok : Within n j) (bs : List (Slot n)) (ks₀ : Kepts bs) (ss : List (Slot n)) (ks : Kepts ss) (RT : RattleType) where

@@ -3,6 +3,7 @@ pub mod Local
 pub mod Cells
 pub mod Straight
 pub mod Entry
+pub mod Carried
 pub mod Calls
 pub mod Filling
 pub mod Parameters

@@ -4,3 +4,5 @@ pub mod Loop
 pub mod Again
 pub mod Rows
 pub mod Gathered
+pub mod Sizes
+pub mod Reading
