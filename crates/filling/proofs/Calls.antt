@@ -57,8 +57,11 @@ abbrev pub pool-filling : RattleType → Signature
 pool-filling R = record { lifetimes = 3; outlives = []; params = shrSliceOf (0 ∷ []) tt (plain (λ _. u8)) ∷ shrSliceOf (1 ∷ []) tt (plain (λ _. u16)) ∷ plain (λ _. usize) ∷ mutSliceOf (2 ∷ []) tt (plain (λ _. R)) ∷ []; result = plain (λ _. unit) }
 
 abbrev pub PoolFilling : {M : Type 1} (𝓤 : URA M) (H : Heap 𝓤) (A : Atoms 𝓤) (R : RattleType) → (List ℕ → List ℕ → ℕ → List (R .Denot) → List (R .Denot)) → Contract 𝓤
-PoolFilling 𝓤 H A R after = tripleOf 𝓤 H A (pool-filling R) (λ κs a. record { ghost = Unit {0}; requires = λ _. fact 𝓤 (a .1 .1 .0 ≤ length (a .1 .1 .1 .0 .now));
-    ensures = λ _ r. exits 𝓤 H A (pool-filling R) (yes, (yes, (yes, (yes, tt)))) κs a (λ e. fact 𝓤 (e .1 .1 .1 .0 .now ≡ after (a .0 .now) (a .1 .0 .now) (a .1 .1 .0) (a .1 .1 .1 .0 .now))) })
+PoolFilling 𝓤 H A R after = tripleOf 𝓤 H A (pool-filling R) (λ κs a. record {
+  ghost = Unit {0};
+  requires = λ _. fact 𝓤 (a .1 .1 .0 ≤ length (a .1 .1 .1 .0 .now));
+  ensures = λ _ r. exits 𝓤 H A (pool-filling R) (yes, (yes, (yes, (yes, tt)))) κs a (λ e. fact 𝓤 (e .1 .1 .1 .0 .now ≡ after (a .0 .now) (a .1 .0 .now) (a .1 .1 .0) (a .1 .1 .1 .0 .now)));
+})
 
 -- what the slice of a pool's bytes owns, and the list's
 abbrev pub POwn : Lft → RefT (List ℕ) → Fml
@@ -116,7 +119,7 @@ module _ {M : Type 1} (𝓤 : URA M) (H : Heap 𝓤) (A : Atoms 𝓤) (R : Rattl
         cut (‵ (flft κ q) ∷ ‵ (flft (ν ∷ []) fullShare) ∷ ‵ (flft κ′ q′) ∷ ‵ (POwn κ x) ∷ ‵ (ROwn (ν ∷ []) (list-of l δ zs)) ∷ ‵ table-own ∷ []) (raw (PoolFilling 𝓤 H A R after .pre (to-fill l ν δ zs n)) ∷ []) _ (fill-asked l ν δ zs n fits within) $
         asking 𝓤 H A W C fm ! #fill _ (PoolFilling 𝓤 H A R after .pre (to-fill l ν δ zs n)) (PoolFilling 𝓤 H A R after .post (to-fill l ν δ zs n)) (FillPost ν end) (known (to-fill l ν δ zs n)) (λ w. updating {P = ex 𝓤 (Filled-so ν end w)} ! $
         use1 W (later (some (λ (u : Unit {0}). ((‵ (flft κ q) ⊛ ‵ (flft (ν ∷ []) fullShare) ⊛ ‵ (flft κ′ q′) ⊛ ‵ ftrue) ⊛ ‵ (unit .own u (w ∷ [])))
-          ⊛ some (λ (us : Unit {0} × (Unit {0} × (Unit {0} × (List (R .Denot) × Unit {0})))). ‵ (lastsOf (κ, (ν ∷ [], (κ′, tt))) (pool-filling R .params) (yes, (yes, (yes, (yes, tt)))) (x, (list-of l δ zs, (n, (table, tt)))) us) ⊛ raw (fact 𝓤 (us .1 .1 .1 .0 ≡ end)))))) (id⊢ 𝓤 _) $ await ! tt $ pick ! (λ u.
+        ⊛ some (λ (us : Unit {0} × (Unit {0} × (Unit {0} × (List (R .Denot) × Unit {0})))). ‵ (lastsOf (κ, (ν ∷ [], (κ′, tt))) (pool-filling R .params) (yes, (yes, (yes, (yes, tt)))) (x, (list-of l δ zs, (n, (table, tt)))) us) ⊛ raw (fact 𝓤 (us .1 .1 .1 .0 ≡ end)))))) (id⊢ 𝓤 _) $ await ! tt $ pick ! (λ u.
         split ! $ move ! (1 ∷ []) $ pick ! (λ us. split ! $ move ! (1 ∷ []) $ heard ! (us .1 .1 .1 .0 ≡ end) (λ e₂. fsplit ! $ drop ! $ fsplit ! $ drop ! $ fsplit ! $ drop ! $ fsplit ! $ fsplit ! $ move ! (1 ∷ []) $ feqL ! (λ l₂. move ! (1 ∷ []) $ drop ! $
         -- [the table's last list; the tokens and the result; the other tokens]
         at-once {P = ex 𝓤 (Filled-so ν end w)} ! $ show ! (Filled-so ν end w) (us .1 .1 .1 .0) $ says ! e₂ $ says ! l₂ $

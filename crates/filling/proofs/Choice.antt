@@ -100,7 +100,21 @@ module _ {M : Type 1} (𝓤 : URA M) (H : Heap 𝓤) (A : Atoms 𝓤) (X : Carri
           via 𝓤 (sep 𝓤 (Q (y .0 .4)) (emp 𝓤))
           (monoL 𝓤 (emp 𝓤) (said 𝓤 H A S κs qs (spells (typesAt us κs) (cs κs)) (tells κs) a Q (y .0 .4)
           (λ are. wandI 𝓤 (Given-all W C Λ fm cs κs qs a) (emp 𝓤) _ (subst (λ (vs : List Val). ent 𝓤 All (WpFn 𝓤 H C Λ f vs (Post W C Λ fm cs κs qs a))) (sym (flat-held (typesAt us κs) (cs κs) a))
-          (goes-either 𝓤 H A W C Λ fm (Post W C Λ fm cs κs qs a) d c i ℓ μ τ limit ls₁ ls₂ (at κs a .0) (at κs a .1) (at κs a .2) fits f (Held W C Λ fm cs κs qs a) All e (mapped 𝓤 H _ _ (f .locals) (λ E h. (h .0, (h .1, h .2, h .3, h .4, h .5, h .6, h .7, h .8, h .9, h .10,
-            (λ less. subst (λ (s : Script). ent 𝓤 All (meaning 𝓤 H C (Post W C Λ fm cs κs qs a) s)) (h .11) (answers-for W C Λ fm cs κs qs a #short (λ κs a. fact 𝓤 (at κs a .2 ≤ limit)) short (factI 𝓤 _ (emp 𝓤) (leb→le (at κs a .2) limit less)))),
-            (λ more. subst (λ (s : Script). ent 𝓤 All (meaning 𝓤 H C (Post W C Λ fm cs κs qs a) s)) (h .12) (answers-for W C Λ fm cs κs qs a #long (λ κs a. emp 𝓤) long (id⊢ 𝓤 (emp 𝓤))))))) (coded κs qs a are)))))))
+          (goes-either 𝓤 H A W C Λ fm (Post W C Λ fm cs κs qs a) d c i ℓ μ τ limit ls₁ ls₂ (at κs a .0) (at κs a .1) (at κs a .2) fits f (Held W C Λ fm cs κs qs a) All e (mapped 𝓤 H _ _ (f .locals) (λ E h. (
+            h .0,
+            (
+              h .1,
+              h .2,
+              h .3,
+              h .4,
+              h .5,
+              h .6,
+              h .7,
+              h .8,
+              h .9,
+              h .10,
+              (λ less. subst (λ (s : Script). ent 𝓤 All (meaning 𝓤 H C (Post W C Λ fm cs κs qs a) s)) (h .11) (answers-for W C Λ fm cs κs qs a #short (λ κs a. fact 𝓤 (at κs a .2 ≤ limit)) short (factI 𝓤 _ (emp 𝓤) (leb→le (at κs a .2) limit less)))),
+              (λ more. subst (λ (s : Script). ent 𝓤 All (meaning 𝓤 H C (Post W C Λ fm cs κs qs a) s)) (h .12) (answers-for W C Λ fm cs κs qs a #long (λ κs a. emp 𝓤) long (id⊢ 𝓤 (emp 𝓤)))),
+            ),
+          )) (coded κs qs a are)))))))
           (via 𝓤 _ (comm∗ 𝓤 (Q (y .0 .4)) (emp 𝓤)) (apply∗ 𝓤 (emp 𝓤) _))

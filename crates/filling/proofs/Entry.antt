@@ -104,8 +104,11 @@ module _ {M : Type 1} (𝓤 : URA M) (H : Heap 𝓤) (A : Atoms 𝓤) (W : Given
         (mapped 𝓤 H _ _ (f .locals) (λ E h. subst (λ (s : Body). ent 𝓤 (all-of E (empties 𝓤 H E) P) (params 𝓤 H E (map value cs) (Wp 𝓤 H C Λ E s (atReturn 𝓤 H E Q)))) (sym e) (entered-at E s cs P (h .0) (h .1))) k)
 
     pub goes-straight : (f : Fn) (ls : List Line) (cs : List Cell) (P : SProp 𝓤) → f .body ≡ code ls → Everywhere 𝓤 H (f .locals) (λ E. Passed 𝓤 H E cs × Fine 𝓤 H E ls (begun 𝓤 H E cs) × ent 𝓤 P (meaning 𝓤 H C Q (script 𝓤 H E ls (begun 𝓤 H E cs)))) → ent 𝓤 P (WpFn 𝓤 H C Λ f (map value cs) Q)
-    goes-straight f ls cs P e k = goes f (code ls) cs P e (mapped 𝓤 H _ _ (f .locals) (λ E h. (h .0, move ! (2 ∷ []) $ use1 W (raw (meaning 𝓤 H C Q (script 𝓤 H E ls (begun 𝓤 H E cs)))) (h .2) $ move ! (1 ∷ 2 ∷ 0 ∷ []) $
-        straight 𝓤 H A W C Λ fm E Q (atRet E Q) refl ls (begun 𝓤 H E cs) (h .1))) k)
+    goes-straight f ls cs P e k = goes f (code ls) cs P e (mapped 𝓤 H _ _ (f .locals) (λ E h. (
+      h .0,
+      move ! (2 ∷ []) $ use1 W (raw (meaning 𝓤 H C Q (script 𝓤 H E ls (begun 𝓤 H E cs)))) (h .2) $ move ! (1 ∷ 2 ∷ 0 ∷ []) $
+          straight 𝓤 H A W C Λ fm E Q (atRet E Q) refl ls (begun 𝓤 H E cs) (h .1),
+    )) k)
 
     -- what a choice asks: the slice in local i is k long, and each code may suppose what was tested
     module _ (d c i : ℕ) (ℓ : Lifetime) (μ : Mutability) (τ : Ty) (n : ℕ) (ls₁ ls₂ : List Line) (b o k : ℕ) where

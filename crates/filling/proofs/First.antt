@@ -72,9 +72,12 @@ module _ {M : Type 1} (𝓤 : URA M) (H : Heap 𝓤) (A : Atoms 𝓤) (R : Rattl
         → Are-all 𝓤 H A W C Λ fm R N D T (suc m) 0 tt (pool-slot ∷ []) (yes, tt) ss ks (λ κs. (slice-cell, tt)) cs (λ κs a. Asks (a .0 .now)) Says (λ κs a zs. Needs zs (a .0 .now)) (λ κs a d w zs ws. Tells κs (a .0 .now) (length (a .1 .0 .now)) (a .1 .1) d zs (outs κs ss ks (a .1 .1) ws)) countOf answers (λ κs a. a .0) after κs a
         → Coded 𝓤 H A W C Λ fm R N D T (suc m) 0 tt (pool-slot ∷ []) (yes, tt) ss ks (λ κs. (slice-cell, tt)) cs (λ κs a. Asks (a .0 .now)) Says (λ κs a zs. Needs zs (a .0 .now)) (λ κs a d w zs ws. Tells κs (a .0 .now) (length (a .1 .0 .now)) (a .1 .1) d zs (outs κs ss ks (a .1 .1) ws)) countOf answers (λ κs a. a .0) after κs qs a f #core #count #fill #answer ls
 
+    abbrev pub Core-so : Name → Type 1
+    Core-so = Core-known 𝓤 H A W C Λ fm R N D T (suc m) 0 tt (pool-slot ∷ []) (yes, tt) ss ks (λ κs. (slice-cell, tt)) cs (λ κs a. Asks (a .0 .now)) Says (λ κs a zs. Needs zs (a .0 .now)) (λ κs a d w zs ws. Tells κs (a .0 .now) (length (a .1 .0 .now)) (a .1 .1) d zs (outs κs ss ks (a .1 .1) ws)) countOf answers (λ κs a. a .0) after
+
     pub fills-first : (f : Fn) (#core #count #fill #answer : Name) (ls : List Line) → f .body ≡ code ls → Coded-so f #core #count #fill #answer ls → Room u16 N
         → ((κs : Lfts (suc (suc m))) → Tellss (typesAt ss κs) (Ises (typesAt ss κs)) (spells (typesAt ss κs) (cs κs))) → ((p : List ℕ) → ent 𝓤 (Asks p) (fact 𝓤 (Needs (replicate N 0) p)))
-        → Core-known 𝓤 H A W C Λ fm R N D T (suc m) 0 tt (pool-slot ∷ []) (yes, tt) ss ks (λ κs. (slice-cell, tt)) cs (λ κs a. Asks (a .0 .now)) Says (λ κs a zs. Needs zs (a .0 .now)) (λ κs a d w zs ws. Tells κs (a .0 .now) (length (a .1 .0 .now)) (a .1 .1) d zs (outs κs ss ks (a .1 .1) ws)) countOf answers (λ κs a. a .0) after #core
+        → Core-so #core
         → Triple 𝓤 (C #count) (Unary 𝓤 H A (D .row) usize (λ d n. n ≡ countOf d)) → Triple 𝓤 (C #answer) (Unary 𝓤 H A (D .row) (T .row) answers) → Triple 𝓤 (C #fill) (PoolFilling 𝓤 H A R after) → Right
         → Meets 𝓤 H A (passing (suc (suc m)) (over R m ss) (T .row)) (WpFn 𝓤 H C Λ f) (closing 𝓤 H A (record { signature = passing (suc (suc m)) (over R m ss) (T .row); kept = (yes, (yes, ks)) }) (stating 𝓤 H A T (suc (suc m)) (over R m ss) (yes, (yes, ks)) Says (λ κs a. Asks (a .0 .now))))
     fills-first f #core #count #fill #answer ls e coded big tells need core count answer fill right =

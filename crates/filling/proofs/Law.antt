@@ -270,8 +270,12 @@ module _ {M : Type 1} (𝓤 : URA M) (H : Heap 𝓤) (A : Atoms 𝓤) (W : Given
       (monoL 𝓤 (Asks κs a) (said 𝓤 H A S κs qs (spells (typesAt (bs ++ us) κs) (all-held κs)) (tells κs) a Q (y .0 .4)
       (λ are. wandI 𝓤 Given-all (Asks κs a) _ (via 𝓤 (Entry κs qs a) (monoR 𝓤 Given-all (need κs a))
       (subst (λ (us : List Val). ent 𝓤 (Entry κs qs a) (WpFn 𝓤 H C Λ f us (Fn-post κs qs a))) (sym (flat-held (typesAt (bs ++ us) κs) (all-held κs) a))
-      (goes-straight 𝓤 H A W C Λ fm (Fn-post κs qs a) f ls (Held κs qs a) (Entry κs qs a) e (mapped 𝓤 H _ _ (f .locals) (λ E h. (h .0, h .1, subst (λ (s : Script). ent 𝓤 (Entry κs qs a) (meaning 𝓤 H C (Fn-post κs qs a) s)) (h .2 .1)
-      (filled-as 𝓤 H A W C R N (lftAt (suc n) (suc j) ok κs) (shareAt (suc n) (suc j) ok qs) (t κs qs a .ptr .0) (t κs qs a .ptr .1) (t κs qs a .name) (t κs qs a .now) (vs₀ κs qs a) (vs₁ κs qs a) (ps κs qs a) (Copied κs qs a) (filled-so κs qs a) (Toks κs qs a) (toks 𝓤 A (suc n) κs qs) (TC κs qs a) (fsep (B κs qs a) (X κs qs a)) (Owned κs qs a) (OC κs qs a)
-        (WC κs qs a) (WF κs qs a) (λ w. w₁ κs qs a w .1 .0) (others κs qs a) (exit-of κs qs a) (leftsC κs qs a) (leftsF κs qs a) (D .row) (T .row) (D .mir) (T .mir) (λ zs. fact 𝓤 (Needs κs a zs)) (Core-says κs qs a) countOf answers (Fn-says κs qs a)
-        fm big (are-aft κs bs us (cs₀ κs) (slice-cell, cs κs) a are .0 .0 .1) (D .makes) (T .makes) (D .typed) (T .typed) #core #count #fill #answer (ordered κs qs a (copies κs qs a)) (core κs qs a) count answer (filling κs qs a #fill fill) (right κs qs a) (h .2 .0)))) (coded κs qs a are))))))))
+      (goes-straight 𝓤 H A W C Λ fm (Fn-post κs qs a) f ls (Held κs qs a) (Entry κs qs a) e (mapped 𝓤 H _ _ (f .locals) (λ E h. (
+        h .0,
+        h .1,
+        subst (λ (s : Script). ent 𝓤 (Entry κs qs a) (meaning 𝓤 H C (Fn-post κs qs a) s)) (h .2 .1)
+            (filled-as 𝓤 H A W C R N (lftAt (suc n) (suc j) ok κs) (shareAt (suc n) (suc j) ok qs) (t κs qs a .ptr .0) (t κs qs a .ptr .1) (t κs qs a .name) (t κs qs a .now) (vs₀ κs qs a) (vs₁ κs qs a) (ps κs qs a) (Copied κs qs a) (filled-so κs qs a) (Toks κs qs a) (toks 𝓤 A (suc n) κs qs) (TC κs qs a) (fsep (B κs qs a) (X κs qs a)) (Owned κs qs a) (OC κs qs a)
+            (WC κs qs a) (WF κs qs a) (λ w. w₁ κs qs a w .1 .0) (others κs qs a) (exit-of κs qs a) (leftsC κs qs a) (leftsF κs qs a) (D .row) (T .row) (D .mir) (T .mir) (λ zs. fact 𝓤 (Needs κs a zs)) (Core-says κs qs a) countOf answers (Fn-says κs qs a)
+            fm big (are-aft κs bs us (cs₀ κs) (slice-cell, cs κs) a are .0 .0 .1) (D .makes) (T .makes) (D .typed) (T .typed) #core #count #fill #answer (ordered κs qs a (copies κs qs a)) (core κs qs a) count answer (filling κs qs a #fill fill) (right κs qs a) (h .2 .0)),
+      )) (coded κs qs a are))))))))
       (via 𝓤 _ (comm∗ 𝓤 (Q (y .0 .4)) (Asks κs a)) (apply∗ 𝓤 (Asks κs a) _))

@@ -29,15 +29,15 @@ use Rattle.filling.proofs.Cells.{Cell, empty, lent, has, slice, ref, va
 
 -- ---- the lines
 pub data Line : Type 0 where
-  fills : ℕ → Width → ℕ → ℕ → Line                                       -- local d is an array of n times x
-  takes : ℕ → Line                                                        -- local i's memory leaves the function's hands
-  gives : ℕ → Line                                                        -- and is back
-  moves : ℕ → ℕ → Line                                                    -- local d is local i
-  counts-of : ℕ → ℕ → Lifetime → Mutability → Ty → Line                   -- local d is the count of the slice in local i
-  lends-on : ℕ → ℕ → ℕ → Lifetime → Mutability → Ty → Ty → Line           -- local d is the pointer and local e the whole of the slice in local i
-  refers : ℕ → ℕ → Ty → Line                                              -- local d is the reference in local i, lent on
-  slices : ℕ → ℕ → ℕ → ℕ → Line                                          -- local d is the address of local i, local e a slice of n there, which is above 1023
-  asks : Name → List ℕ → ℕ → Line                                         -- local d is what a function answers to some locals
+  fills : ℕ → Width → ℕ → ℕ → Line  -- local d is an array of n times x
+  takes : ℕ → Line  -- local i's memory leaves the function's hands
+  gives : ℕ → Line  -- and is back
+  moves : ℕ → ℕ → Line  -- local d is local i
+  counts-of : ℕ → ℕ → Lifetime → Mutability → Ty → Line  -- local d is the count of the slice in local i
+  lends-on : ℕ → ℕ → ℕ → Lifetime → Mutability → Ty → Ty → Line  -- local d is the pointer and local e the whole of the slice in local i
+  refers : ℕ → ℕ → Ty → Line  -- local d is the reference in local i, lent on
+  slices : ℕ → ℕ → ℕ → ℕ → Line  -- local d is the address of local i, local e a slice of n there, which is above 1023
+  asks : Name → List ℕ → ℕ → Line  -- local d is what a function answers to some locals
 
 abbrev pub copies : List ℕ → List Operand
 copies [] = []

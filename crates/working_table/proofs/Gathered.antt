@@ -52,7 +52,7 @@ gathers p starts table (e ∷ es) i rows =
     let count : i + suc (length es) ≡ suc i + length es = omega arith in
     let here : i + 0 ≡ i = omega arith in
     let next : (k : ℕ) → k < length es → rowIn p starts (suc i + k) ≡ recordOf (getD es k none) =
-      λ k l. let later : suc i + k ≡ i + suc k = omega arith in ap (rowIn p starts) later ∙ rows (suc k) (omega arith) in
+    λ k l. let later : suc i + k ≡ i + suc k = omega arith in ap (rowIn p starts) later ∙ rows (suc k) (omega arith) in
     ap (λ (k : ℕ). gathered p starts k table) count
     ∙ gathers p starts table es (suc i) next
     ∙ ap (λ (l : List Record). sets l (suc i) (map recordOf es)) (gathered-next p starts i table ∙ ap (set (gathered p starts i table) i) (sym (ap (rowIn p starts) here) ∙ rows 0 (omega arith)))
@@ -71,7 +71,7 @@ laid p starts n table h d =
     let count : n ≡ 0 + length es = omega (arith, entries-long p t) in
     ap (λ (k : ℕ). gathered p starts k table) count
     ∙ gathers p starts table es 0 (λ k l. let here : 0 + k ≡ k = omega arith in ap (rowIn p starts) here ∙ row-there p starts k (omega (arith, entries-long p t))
-        ∙ sym (ap recordOf (entry-at p t none k (omega (arith, entries-long p t)) ∙ ap (λ (a : ℕ). entryAt p a (getD t (suc k) 0)) (getD-take (n + 1) starts k 0 (omega (arith, entries-long p t))) ∙ ap (entryAt p (getD starts k 0)) (getD-take (n + 1) starts (suc k) 0 (omega (arith, entries-long p t))))))
+    ∙ sym (ap recordOf (entry-at p t none k (omega (arith, entries-long p t)) ∙ ap (λ (a : ℕ). entryAt p a (getD t (suc k) 0)) (getD-take (n + 1) starts k 0 (omega (arith, entries-long p t))) ∙ ap (entryAt p (getD starts k 0)) (getD-take (n + 1) starts (suc k) 0 (omega (arith, entries-long p t))))))
     ∙ ap (λ (l : List Record). sets l 0 (map recordOf es)) (gathered-none p starts table)
     ∙ ap (λ (s : Scan). sets table 0 (map recordOf (entriesIn s))) (sym (d .divides))
 

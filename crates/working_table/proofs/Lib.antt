@@ -5,4 +5,5 @@ pub mod Again
 pub mod Rows
 pub mod Gathered
 pub mod Sizes
+pub mod Over
 pub mod Reading
