@@ -2,5 +2,4 @@
 pub mod Records
 pub mod Naming
 pub mod Lists
-pub mod Links
-pub mod Steps
+pub mod Chained

@@ -1,176 +1,129 @@
-// What IDs name, by a list under the ID. The lists are lent: how long they are is the caller's choice.
+// What IDs name, by short lists: heads under the ID's remainder, and from each record a link to an earlier one of the same
+// remainder, so that the links fall and every walk along them ends. The lists are lent: how many heads there are is the caller's
+// choice, and no ID is too large for them.
 ghost use mathlib.Core.Path.{_≡_};
-ghost use mathlib.Core.Bool.{true, cond};
-ghost use Prim.Native.Nat.{_+_, _*_, _≤_, _<_};
+ghost use mathlib.Core.Bool.{not};
+ghost use Prim.Native.Nat.{suc, _+_, _≤_, _<_, _%_};
 ghost use lib.Dec.{eqb};
-ghost use lib.ListN.{length, getD};
-ghost use Rattle.pool.specs.Reading.{width};
+ghost use lib.ListN.{length};
+ghost use Rattle.pool.specs.Walk.{entriesOf, Divided};
 ghost use Rattle.naming.specs.Records.{idAt};
-ghost use Rattle.naming.specs.Naming.{numberKey};
-ghost use Rattle.naming.specs.Lists.{shown, kindIn, Blank, Indexed, IndexedBelow, Roomy};
-ghost use Rattle.naming.specs.Links.{linkKind, Linked, ownFits, Owned};
-ghost use Rattle.naming.specs.Steps.{entered, numberIn, RoomIn};
+ghost use Rattle.naming.specs.Naming.{firstOf, named, kindOf, parentOf};
+ghost use Rattle.naming.specs.Lists.{idIn, Blank};
+ghost use Rattle.naming.specs.Chained.{Chained, Names};
 
-// Puts a record's number under a key that has none yet.
-fn enter(index: &mut [u16], key: u16, number: u16)
-    ensures { λ _. ⌜ now (index .exit) ≡ entered (now (index .entry)) key number ⌝ }
+// The remainder of an ID by a number of heads. The numbers that are in use stand as constants: so none of them is divided by.
+fn remainder(id: u16, heads: usize) -> usize
+    requires { ⌜ 0 < heads ⌝ }
+    ensures { λ r. ⌜ r ≡ id % heads ⌝ }
 {
-    let at = key as usize;
-    if at < index.len() {
-        if index[at] == 0 {
-            index[at] = number;
+    let x = id as usize;
+    if heads == 2039 {
+        return x % 2039;
+    }
+    if heads == 509 {
+        return x % 509;
+    }
+    x % heads
+}
+
+// The ID of record i.
+fn id_at(p: &[u8], starts: &[u16], i: usize) -> u16
+    requires { ⌜ Divided (now p) (now starts) × (i + 1 < length (now starts)) ⌝ }
+    ensures { λ r. ⌜ r ≡ idIn (now (p .entry)) (now (starts .entry)) i ⌝ }
+{
+    wire::pair(p, starts[i] as usize + 3)
+}
+
+// The number of the first of `count` records with an ID, by the lists of those; 0 for none.
+fn find(p: &[u8], starts: &[u16], count: usize, heads: &[u16], next: &[u16], id: u16) -> u16
+    requires { ⌜ Divided (now p) (now starts) × (count < length (now starts)) × (count < length (now next)) × Chained (idIn (now p) (now starts)) count (now heads) (now next) ⌝ }
+    ensures { λ r. ⌜ r ≡ firstOf (idIn (now (p .entry)) (now (starts .entry))) id count ⌝ }
+{
+    let head = remainder(id, heads.len());
+    let mut r = heads[head];
+    while r != 0 {
+        let at = r as usize;
+        if id_at(p, starts, at - 1) == id {
+            return r;
         }
-    }
-}
-
-// Lists the records by ID. Tells whether the list is long enough for every ID.
-pub fn index_ids(table: &[u16], count: usize, index: &mut [u16]) -> bool
-    requires { ⌜ (count * width ≤ length (now table)) × (count ≤ 8192) × Blank (now index) ⌝ }
-    ensures { λ r. ⌜ (r ≡ true → Indexed (idAt (shown (now (table .entry)) count)) count (now (index .exit))) × (65536 ≤ length (now (index .entry)) → r ≡ true) ⌝ }
-{
-    let mut i: usize = 0;
-    while i < count {
-        let id = table[i * 4 + 3];
-        if index.len() <= id as usize {
-            return false;
-        }
-        enter(index, id, (i + 1) as u16);
-        i += 1;
-    }
-    true
-}
-
-// A kind as it stands in a link.
-fn link_kind(kind: u16) -> u16
-    ensures { λ r. ⌜ (r ≡ linkKind kind) × (r ≤ 7) ⌝ }
-{
-    if kind == 0 {
-        return 7;
-    }
-    if 6 < kind {
-        return 7;
-    }
-    kind
-}
-
-// Rule 1: whether a record of a kind may have an ID.
-fn is_own(kind: u16, id: u16) -> bool
-    ensures { λ r. ⌜ r ≡ ownFits kind id ⌝ }
-{
-    if kind == 1 {
-        return id == 0;
-    }
-    (id != 0) & (id != 65535)
-}
-
-// Puts a link under the ID of a record, where the list is long enough, the record may have it and none before has it. Tells
-// whether that is so.
-fn link_own(links: &mut [u16], kind: u16, id: u16, link: u16) -> bool
-    ensures { λ r. ⌜ (r ≡ true → (id < length (now (links .entry))) × (getD (now (links .entry)) id 0 ≡ 0) × (ownFits kind id ≡ true) × (now (links .exit) ≡ entered (now (links .entry)) id link)) ⌝ }
-{
-    let at = id as usize;
-    if links.len() <= at {
-        return false;
-    }
-    if !is_own(kind, id) {
-        return false;
-    }
-    if links[at] != 0 {
-        return false;
-    }
-    links[at] = link;
-    true
-}
-
-// Lists by ID a link to each record: its place in the table and its kind in one number. Tells whether the list is long enough
-// for every ID and no record breaks rule 1 or 2.
-pub fn link_ids(table: &[u16], count: usize, links: &mut [u16]) -> bool
-    requires { ⌜ (count * width ≤ length (now table)) × (count ≤ 8192) × Blank (now links) ⌝ }
-    ensures { λ r. ⌜ (r ≡ true → Linked (shown (now (table .entry)) count) count (now (links .exit)) × Owned (shown (now (table .entry)) count) count) ⌝ }
-{
-    let mut i: usize = 0;
-    while i < count {
-        let kind = table[i * 4 + 2];
-        let id = table[i * 4 + 3];
-        let link = (i * 8) as u16 + link_kind(kind);
-        if !link_own(links, kind, id, link) {
-            return false;
-        }
-        i += 1;
-    }
-    true
-}
-
-// Puts the number of entry i, if it is a device element's, under its element number. Tells whether the list is long enough for
-// that, and so many numbers for its list of entries.
-fn enter_number(p: &[u8], table: &[u16], i: usize, room: usize, index: &mut [u16]) -> bool
-    requires { ⌜ (i * width + width ≤ length (now table)) × (i < 8192) ⌝ }
-    ensures { λ r. ⌜ (r ≡ true → (IndexedBelow 65536 (numberIn (now (p .entry)) (now (table .entry))) i (now (index .entry)) → IndexedBelow 65536 (numberIn (now (p .entry)) (now (table .entry))) (i + 1) (now (index .exit))) × RoomIn (now (p .entry)) (now (table .entry)) room i) × (65536 ≤ length (now (index .entry)) → RoomIn (now (p .entry)) (now (table .entry)) room i → r ≡ true) ⌝ }
-{
-    if table[i * 4 + 2] != 2 {
-        return true;
-    }
-    let element = views::device_element(p, table[i * 4]);
-    if index.len() <= element.number as usize {
-        return false;
-    }
-    if room < element.entries as usize {
-        return false;
-    }
-    enter(index, element.number, (i + 1) as u16);
-    true
-}
-
-// Lists the device elements by element number. Tells whether the list is long enough for every number, and so many numbers for
-// every list of entries.
-pub fn index_numbers(p: &[u8], table: &[u16], count: usize, room: usize, index: &mut [u16]) -> bool
-    requires { ⌜ (count * width ≤ length (now table)) × (count ≤ 8192) × Blank (now index) ⌝ }
-    ensures { λ r. ⌜ (r ≡ true → IndexedBelow 65536 (numberKey (now (p .entry)) (shown (now (table .entry)) count)) count (now (index .exit)) × Roomy (now (p .entry)) (shown (now (table .entry)) count) room) × (65536 ≤ length (now (index .entry)) → Roomy (now (p .entry)) (shown (now (table .entry)) count) room → r ≡ true) ⌝ }
-{
-    let mut i: usize = 0;
-    while i < count {
-        if !enter_number(p, table, i, room, index) {
-            return false;
-        }
-        i += 1;
-    }
-    true
-}
-
-// A number of a list, 0 behind its end.
-pub fn number_at(list: &[u16], i: usize) -> u16
-    ensures { λ r. ⌜ r ≡ getD (now (list .entry)) i 0 ⌝ }
-{
-    if i < list.len() {
-        return list[i];
+        r = next[at];
     }
     0
 }
 
-// The number of the record that an ID names, by the list; 0 for none.
-pub fn named_at(index: &[u16], id: u16) -> u16
-    ensures { λ r. ⌜ r ≡ cond (eqb id 65535) 0 (getD (now (index .entry)) id 0) ⌝ }
+// Links record i to the last earlier one of its remainder, or marks it where an earlier one has its ID.
+fn enter(p: &[u8], starts: &[u16], i: usize, heads: &mut [u16], next: &mut [u16])
+    requires { ⌜ Divided (now p) (now starts) × (i + 1 < length (now starts)) × (length (now starts) ≤ length (now next)) × Chained (idIn (now p) (now starts)) i (now heads) (now next) ⌝ }
+    ensures { λ _. ⌜ Chained (idIn (now (p .entry)) (now (starts .entry))) (i + 1) (now (heads .exit)) (now (next .exit)) ⌝ }
+{
+    let id = id_at(p, starts, i);
+    let first = find(p, starts, i, heads, next, id);
+    let at = i + 1;
+    if first != 0 {
+        next[at] = 65535;
+        return;
+    }
+    let head = remainder(id, heads.len());
+    next[at] = heads[head];
+    heads[head] = at as u16;
+}
+
+// Lists the records by ID.
+pub fn name_ids(p: &[u8], starts: &[u16], heads: &mut [u16], next: &mut [u16])
+    requires { ⌜ Divided (now p) (now starts) × (length (now starts) ≤ length (now next)) × (0 < length (now heads)) × Blank (now heads) ⌝ }
+    ensures { λ _. ⌜ Names (now (p .entry)) (now (starts .entry)) (now (heads .exit)) (now (next .exit)) ⌝ }
+{
+    let count = starts.len() - 1;
+    let mut i: usize = 0;
+    while i < count {
+        enter(p, starts, i, heads, next);
+        i += 1;
+    }
+}
+
+// The number of the record that an ID names; 0 for none.
+pub fn named_at(p: &[u8], starts: &[u16], heads: &[u16], next: &[u16], id: u16) -> u16
+    requires { ⌜ Names (now p) (now starts) (now heads) (now next) ⌝ }
+    ensures { λ r. ⌜ r ≡ named (entriesOf (now (p .entry)) (now (starts .entry))) id ⌝ }
 {
     if id == 65535 {
         return 0;
     }
-    let at = id as usize;
-    if at < index.len() {
-        return index[at];
-    }
-    0
+    find(p, starts, starts.len() - 1, heads, next, id)
 }
 
-// The kind of the record with a number from 1, by the table; 0 for none.
-pub fn kind_at(table: &[u16], number: u16) -> u16
-    ensures { λ r. ⌜ r ≡ kindIn (now (table .entry)) number ⌝ }
+// Rule 2: whether an earlier record has the ID of record i. Its link says so.
+pub fn repeats_id(p: &[u8], starts: &[u16], heads: &[u16], next: &[u16], i: usize) -> bool
+    requires { ⌜ Names (now p) (now starts) (now heads) (now next) × (i + 1 < length (now starts)) ⌝ }
+    ensures { λ r. ⌜ r ≡ not (eqb (firstOf (idAt (entriesOf (now (p .entry)) (now (starts .entry)))) (idAt (entriesOf (now (p .entry)) (now (starts .entry))) i) (length (entriesOf (now (p .entry)) (now (starts .entry))))) (suc i)) ⌝ }
+{
+    next[i + 1] == 65535
+}
+
+// The kind of the record with a number from 1; 0 for none.
+pub fn kind_at(p: &[u8], starts: &[u16], number: u16) -> u16
+    requires { ⌜ number < length (now starts) ⌝ }
+    ensures { λ r. ⌜ r ≡ kindOf (entriesOf (now (p .entry)) (now (starts .entry))) number ⌝ }
 {
     if number == 0 {
         return 0;
     }
-    let at = (number as usize - 1) * 4 + 2;
-    if at < table.len() {
-        return table[at];
+    records::view::kind(p, starts[number as usize - 1])
+}
+
+// The number of the device element that the parent of the record with a number names, 0 where a chain ends.
+pub fn parent_at(p: &[u8], starts: &[u16], heads: &[u16], next: &[u16], number: u16) -> u16
+    requires { ⌜ Names (now p) (now starts) (now heads) (now next) × (number < length (now starts)) ⌝ }
+    ensures { λ r. ⌜ r ≡ parentOf (now (p .entry)) (entriesOf (now (p .entry)) (now (starts .entry))) number ⌝ }
+{
+    if kind_at(p, starts, number) != 2 {
+        return 0;
     }
-    0
+    let element = views::device_element(p, starts[number as usize - 1]);
+    let parent = named_at(p, starts, heads, next, element.parent);
+    if kind_at(p, starts, parent) != 2 {
+        return 0;
+    }
+    parent
 }
