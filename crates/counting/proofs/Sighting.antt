@@ -11,6 +11,7 @@ use lib.ListN.{length}
 use Rattle.marks.specs.Bits.{bitAt}
 use Rattle.records.specs.declared.DeviceElement.{DeviceElement}
 use Rattle.views.specs.Fields.{elementOf}
+use Rattle.pool.specs.Reading.{Entry}
 use Rattle.pool.specs.Walk.{entriesOf}
 use Rattle.pool.proofs.Starts.{entries-long}
 use Rattle.naming.specs.Records.{startAt, kindAt}
@@ -71,6 +72,7 @@ module _ (p starts : List ℕ) where
     falls : full ≡ false → Falling p (entriesOf p starts) (suc i + 1)
     falls f = go (ℕ-discrete kind 2)
       where
+        es : List Entry
         es = entriesOf p starts
 
         names : parent ≡ named es (elementOf p (startAt es i) .parent)
@@ -90,6 +92,7 @@ module _ (p starts : List ℕ) where
         → r ≡ repeats (elementKey p (entriesOf p starts)) (suc (e .number)) i (length (entriesOf p starts))
     repeated-is r by-marks by-numbers = go full refl
       where
+        es : List Entry
         es = entriesOf p starts
 
         go : (b : Bool) → full ≡ b → r ≡ repeats (elementKey p es) (suc (e .number)) i (length es)
@@ -104,6 +107,7 @@ module _ (p starts : List ℕ) where
         → r ≡ not (eqb (climb (parentOf p (entriesOf p starts)) (length (entriesOf p starts)) (suc i)) 0)
     circling-is r by-marks by-parents = go full refl
       where
+        es : List Entry
         es = entriesOf p starts
 
         go : (b : Bool) → full ≡ b → r ≡ not (eqb (climb (parentOf p es) (length es) (suc i)) 0)

@@ -1,6 +1,5 @@
 // Counting the faults of a pool that has been listed, in one pass: each record is looked at once, and its faults are put at once, so
 // that they come in order.
-use records::DeviceElement;
 ghost use mathlib.Core.Path.{_≡_};
 ghost use mathlib.Core.Bool.{true, false, _&&_, _||_};
 ghost use Prim.Native.Nat.{ℕ, _+_, _*_, _≤_, _<_, _^_};
@@ -99,21 +98,21 @@ fn pass_element(
     heads: &[u16],
     next: &[u16],
     i: usize,
-    before: Passed,
+    passed: Passed,
     numbers: &mut [u8],
     again: &mut [u8],
     endless: &mut [u8],
     seen: &mut [u16],
     faults: &mut [u16],
 ) -> Passed
-    requires { ⌜ Names (now p) (now starts) (now heads) (now next) × (i + 1 < length (now starts)) × (kindAt (entriesOf (now p) (now starts)) i ≡ 2) × Sighted (now p) (now starts) i (before .full) (now numbers) (now again) (now endless) × (1024 ≤ length (now seen)) × (before .n < 2 ^ 37) ⌝ }
-    ensures { λ r. ⌜ Added (now (p .entry)) (now (starts .entry)) i (now (faults .entry)) (before .n) (now (faults .exit)) (r .n) × Sighted (now (p .entry)) (now (starts .entry)) (i + 1) (r .full) (now (numbers .exit)) (now (again .exit)) (now (endless .exit)) ⌝ }
+    requires { ⌜ Names (now p) (now starts) (now heads) (now next) × (i + 1 < length (now starts)) × (kindAt (entriesOf (now p) (now starts)) i ≡ 2) × Sighted (now p) (now starts) i (passed .full) (now numbers) (now again) (now endless) × (1024 ≤ length (now seen)) × (passed .n < 2 ^ 37) ⌝ }
+    ensures { λ r. ⌜ Added (now (p .entry)) (now (starts .entry)) i (now (faults .entry)) (passed .n) (now (faults .exit)) (r .n) × Sighted (now (p .entry)) (now (starts .entry)) (i + 1) (r .full) (now (numbers .exit)) (now (again .exit)) (now (endless .exit)) ⌝ }
 {
     let e = views::device_element(p, starts[i]);
     let parent = naming::named_at(p, starts, heads, next, e.parent);
     let kind = naming::kind_at(p, starts, parent);
     let unusual = is_unusual(e.number, parent, kind, i);
-    let full = settle(p, starts, heads, next, before.full, unusual, again, endless);
+    let full = settle(p, starts, heads, next, passed.full, unusual, again, endless);
     let repeated = is_again(numbers, again, i, e.number, full);
     let circling = is_endless(endless, i, full);
     let n = breaches::put_element(
@@ -129,7 +128,7 @@ fn pass_element(
         circling,
         seen,
         faults,
-        before.n,
+        passed.n,
     );
     Passed { n, full }
 }
@@ -142,15 +141,15 @@ fn pass(
     next: &[u16],
     device: u16,
     i: usize,
-    before: Passed,
+    passed: Passed,
     numbers: &mut [u8],
     again: &mut [u8],
     endless: &mut [u8],
     seen: &mut [u16],
     faults: &mut [u16],
 ) -> Passed
-    requires { ⌜ Names (now p) (now starts) (now heads) (now next) × (i + 1 < length (now starts)) × (device ≡ firstOf (kindAt (entriesOf (now p) (now starts))) 1 (length (entriesOf (now p) (now starts)))) × Sighted (now p) (now starts) i (before .full) (now numbers) (now again) (now endless) × (1024 ≤ length (now seen)) × (before .n < 2 ^ 37) ⌝ }
-    ensures { λ r. ⌜ Added (now (p .entry)) (now (starts .entry)) i (now (faults .entry)) (before .n) (now (faults .exit)) (r .n) × Sighted (now (p .entry)) (now (starts .entry)) (i + 1) (r .full) (now (numbers .exit)) (now (again .exit)) (now (endless .exit)) ⌝ }
+    requires { ⌜ Names (now p) (now starts) (now heads) (now next) × (i + 1 < length (now starts)) × (device ≡ firstOf (kindAt (entriesOf (now p) (now starts))) 1 (length (entriesOf (now p) (now starts)))) × Sighted (now p) (now starts) i (passed .full) (now numbers) (now again) (now endless) × (1024 ≤ length (now seen)) × (passed .n < 2 ^ 37) ⌝ }
+    ensures { λ r. ⌜ Added (now (p .entry)) (now (starts .entry)) i (now (faults .entry)) (passed .n) (now (faults .exit)) (r .n) × Sighted (now (p .entry)) (now (starts .entry)) (i + 1) (r .full) (now (numbers .exit)) (now (again .exit)) (now (endless .exit)) ⌝ }
 {
     let kind = records::view::kind(p, starts[i]);
     if kind == 2 {
@@ -160,7 +159,7 @@ fn pass(
             heads,
             next,
             i,
-            before,
+            passed,
             numbers,
             again,
             endless,
@@ -168,8 +167,8 @@ fn pass(
             faults,
         );
     }
-    let full = before.full;
-    let n = breaches::put_other(p, starts, heads, next, device, i, kind, faults, before.n);
+    let full = passed.full;
+    let n = breaches::put_other(p, starts, heads, next, device, i, kind, faults, passed.n);
     Passed { n, full }
 }
 
