@@ -136,7 +136,7 @@ fn walk_links(
 }
 
 // The same with lists of its own, which are on the stack of long lists alone.
-fn walk_long(
+pub fn walk_long(
     p: &[u8],
     starts: &[u16],
     heads: &[u16],
