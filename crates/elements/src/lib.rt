@@ -1,6 +1,7 @@
 // The rules that look from a device element at what it refers to: its parent, and its list of entries. Entries are read from the pool and
 // looked up as they are needed: no list of what they name is kept.
 mod doubles;
+mod links;
 
 ghost use mathlib.Core.Path.{_≡_};
 ghost use mathlib.Core.Bool.{true, false};
@@ -218,6 +219,6 @@ pub fn are_apart(
         return false;
     }
     let mut none = [0u16; 1];
-    let walked = doubles::walk_long(p, starts, heads, next, at, size, 0, &mut none, 0);
+    let walked = links::walk_long(p, starts, heads, next, at, size, 0, &mut none, 0);
     (walked.n == 0) & (walked.tagged == size)
 }

@@ -1,4 +1,4 @@
--- `elements::doubles::walk_links` meets its contract: the walk over the entries, and inside it the walk along the links. The place of
+-- `elements::links::walk_links` meets its contract: the walk over the entries, and inside it the walk along the links. The place of
 -- the entry that first names the record falls. Assumes nothing.
 use mathlib.Core.Path.{_≡_, refl, sym, ap, _∙_, subst}
 use mathlib.Core.List.{List, [], _∷_}
@@ -18,8 +18,8 @@ use Rattle.elements.specs.Lists.{entryTag}
 use Rattle.elements.proofs.Tags.{tag-nothing, tag-ddi}
 use Rattle.elements.proofs.Linked.{at-below, place, Walks, standing-tagged, walk-begins, walk-goes, walk-falls, walks-out}
 use Rattle.elements.proofs.Linking.{Linking, link-start, link-plain, link-met, link-new}
-use Rattle.elements.proofs.doubles.walk_links.Statement.{statement}
-use Rattle.elements.proofs.doubles.walk_links.Tie as tie
+use Rattle.elements.proofs.links.walk_links.Statement.{statement}
+use Rattle.elements.proofs.links.walk_links.Tie as tie
 
 abbrev Inv-loop : tie.InvT-loop
 Inv-loop p starts heads next at tops links size number faults₀ count from n₀ tagged m named tag b k₀ faults n k =

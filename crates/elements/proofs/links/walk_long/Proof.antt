@@ -1,10 +1,10 @@
--- `elements::doubles::walk_long` meets its contract. Assumes nothing.
+-- `elements::links::walk_long` meets its contract. Assumes nothing.
 use mathlib.Core.Path.{refl}
 use borrow.Author.Needs.{needs}
 use Rattle.naming.proofs.Lists.{blank, long}
 use Rattle.naming.proofs.Names.{names-few}
-use Rattle.elements.proofs.doubles.walk_long.Statement.{statement}
-use Rattle.elements.proofs.doubles.walk_long.Tie as tie
+use Rattle.elements.proofs.links.walk_long.Statement.{statement}
+use Rattle.elements.proofs.links.walk_long.Tie as tie
 
 slice-aggregate-walk-links : tie.Need-slice-aggregate-walk-links
 slice-aggregate-walk-links c = search needs
