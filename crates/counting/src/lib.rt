@@ -190,7 +190,10 @@ fn put_records(
     ensures { λ r. ⌜ Completes (now (p .entry)) (entriesOf (now (p .entry)) (now (starts .entry))) (now (faults .entry)) start (now (faults .exit)) r ⌝ }
 {
     let count = starts.len() - 1;
-    let mut passed = Passed { n: start, full: false };
+    let mut passed = Passed {
+        n: start,
+        full: false,
+    };
     let mut i: usize = 0;
     while i < count {
         passed = pass(
@@ -213,7 +216,7 @@ fn put_records(
 }
 
 // The faults of a pool whose IDs have been listed, with marks for as many records as it has.
-fn put_all(
+pub fn put_all(
     p: &[u8],
     starts: &[u16],
     heads: &[u16],

@@ -57,10 +57,11 @@ returns c =
     let l : suc (a .i) < length starts = omega (arith, c .before .before .before .before .before .before .before .before .before .before .before .before .before .before .before .pre .1) in
     let seen = c .before .before .before .is-clear-element .ensures (c .if1 .taken) in
     let none = clear-both (c .before .before .before .before .before .before .is-bad-id .result || c .before .before .before .before .before .repeats-id .result) (a .again || a .endless) (seen .0) in
-    let rest = clear-both (a .again) (a .endless) (none .1) in
-    (puts-clear (record-clear p es (a .i) 2 (sym (c .before .before .before .before .before .before .before .before .before .before .before .before .before .before .before .pre .2)) (c .before .before .before .before .before .before .is-bad-id .result) (c .before .before .before .before .before .repeats-id .result) (c .before .before .before .before .before .before .is-bad-id .ensures ∙ ap (badOwn 2) (c .before .before .before .before .before .before .before .id .ensures ∙ sym (id-read p starts (a .i) l))) (c .before .before .before .before .before .repeats-id .ensures) (none .0)
-    (element-looked p es (a .i) (getD starts (a .i) 0) 2 (start-read p starts (a .i) l) refl (a .e) (c .before .before .before .before .before .before .before .before .before .before .before .before .before .before .before .pre .3) (a .parent) (c .before .before .before .before .before .before .before .before .before .before .before .before .before .before .before .pre .4) (a .again) (a .endless) (c .before .before .before .before .before .before .before .before .before .before .before .before .before .before .before .pre .6) (c .before .before .before .before .before .before .before .before .before .before .before .before .before .before .before .pre .7) (seen .1) (ap isParent (sym (c .before .before .before .before .before .before .before .before .before .before .before .before .before .before .before .pre .5)) ∙ seen .2) (rest .0) (rest .1) (seen .3))),
-    omega arith)
+    let rest = clear-both (a .again) (a .endless) (none .1) in (
+      puts-clear (record-clear p es (a .i) 2 (sym (c .before .before .before .before .before .before .before .before .before .before .before .before .before .before .before .pre .2)) (c .before .before .before .before .before .before .is-bad-id .result) (c .before .before .before .before .before .repeats-id .result) (c .before .before .before .before .before .before .is-bad-id .ensures ∙ ap (badOwn 2) (c .before .before .before .before .before .before .before .id .ensures ∙ sym (id-read p starts (a .i) l))) (c .before .before .before .before .before .repeats-id .ensures) (none .0)
+          (element-looked p es (a .i) (getD starts (a .i) 0) 2 (start-read p starts (a .i) l) refl (a .e) (c .before .before .before .before .before .before .before .before .before .before .before .before .before .before .before .pre .3) (a .parent) (c .before .before .before .before .before .before .before .before .before .before .before .before .before .before .before .pre .4) (a .again) (a .endless) (c .before .before .before .before .before .before .before .before .before .before .before .before .before .before .before .pre .6) (c .before .before .before .before .before .before .before .before .before .before .before .before .before .before .before .pre .7) (seen .1) (ap isParent (sym (c .before .before .before .before .before .before .before .before .before .before .before .before .before .before .before .pre .5)) ∙ seen .2) (rest .0) (rest .1) (seen .3))),
+      omega arith,
+    )
 
 put-faults-requires : tie.Need-put-faults-requires
 unfolding repeats idIn

@@ -56,9 +56,10 @@ same-length-6 c = search needs
 returns-2 : tie.Need-returns-2
 returns-2 c =
     let a = c .before .before .before .before .before .before .before .before .before .before .before .before .before .before .before .before .args in
-    let l : suc (a .i) < length (a .starts .now) = omega (arith, c .before .before .before .before .before .before .before .before .before .before .before .before .before .before .before .before .pre .1) in
-    (record { puts = c .before .before .put-other .ensures .0; few = c .before .before .put-other .ensures .1 },
-    sighted-other (a .p .now) (a .starts .now) (a .i) (a .passed .full) (a .numbers .now) (a .again .now) (a .endless .now) (c .before .before .before .before .before .before .before .before .before .before .before .before .before .before .before .before .pre .3) (λ e. c .before .before .before .before .if1 .left (c .before .before .before .before .before .kind .ensures ∙ kind-is (a .p .now) (a .starts .now) (a .i) l ∙ e)))
+    let l : suc (a .i) < length (a .starts .now) = omega (arith, c .before .before .before .before .before .before .before .before .before .before .before .before .before .before .before .before .pre .1) in (
+      record { puts = c .before .before .put-other .ensures .0; few = c .before .before .put-other .ensures .1 },
+      sighted-other (a .p .now) (a .starts .now) (a .i) (a .passed .full) (a .numbers .now) (a .again .now) (a .endless .now) (c .before .before .before .before .before .before .before .before .before .before .before .before .before .before .before .before .pre .3) (λ e. c .before .before .before .before .if1 .left (c .before .before .before .before .before .kind .ensures ∙ kind-is (a .p .now) (a .starts .now) (a .i) l ∙ e)),
+    )
 
 pub pass-spec : {M : Type 1} → statement M
 pass-spec =

@@ -50,11 +50,12 @@ returns c =
     let starts = a .starts .now in
     let es = entriesOf p starts in
     let l : suc (a .i) < length starts = omega (arith, c .before .before .before .before .before .before .before .before .before .before .before .before .before .before .before .before .before .before .before .pre .1) in
-    let few : a .e .entries ≤ 32768 = list-fits _ _ (names-divided _ _ _ _ (c .before .before .before .before .before .before .before .before .before .before .before .before .before .before .before .before .before .before .before .pre .0)) (a .i) l (c .before .before .before .before .before .before .before .before .before .before .before .before .before .before .before .before .before .before .before .pre .2) (a .e) (c .before .before .before .before .before .before .before .before .before .before .before .before .before .before .before .before .before .before .before .pre .3) in
-    (all-rows p es (a .i) 2 (sym (c .before .before .before .before .before .before .before .before .before .before .before .before .before .before .before .before .before .before .before .pre .2)) (a .bad) (a .twice) (c .before .before .before .before .before .before .before .before .before .before .before .before .before .before .before .before .before .before .before .pre .5) (c .before .before .before .before .before .before .before .before .before .before .before .before .before .before .before .before .before .before .before .pre .6) (c .before .before .before .before .before .before .before .before .before .before .put-own .ensures .0)
-    (rw (element-rows p es (a .i) (getD starts (a .i) 0) 2 (start-read p starts (a .i) l) refl (a .e) (c .before .before .before .before .before .before .before .before .before .before .before .before .before .before .before .before .before .before .before .pre .3) (a .parent) (c .before .before .before .before .before .before .before .before .before .before .before .before .before .before .before .before .before .before .before .pre .4) (a .again) (a .endless) (c .before .before .before .before .before .before .before .before .before .before .before .before .before .before .before .before .before .before .before .pre .7) (c .before .before .before .before .before .before .before .before .before .before .before .before .before .before .before .before .before .before .before .pre .8))
-    (puts-then (c .before .before .before .before .before .before .put-fields .ensures .0) (c .before .before .put-references .ensures .0))),
-    omega (arith, c .before .before .before .before .before .before .before .before .before .before .put-own .ensures .1, c .before .before .before .before .before .before .put-fields .ensures .1, c .before .before .put-references .ensures .1))
+    let few : a .e .entries ≤ 32768 = list-fits _ _ (names-divided _ _ _ _ (c .before .before .before .before .before .before .before .before .before .before .before .before .before .before .before .before .before .before .before .pre .0)) (a .i) l (c .before .before .before .before .before .before .before .before .before .before .before .before .before .before .before .before .before .before .before .pre .2) (a .e) (c .before .before .before .before .before .before .before .before .before .before .before .before .before .before .before .before .before .before .before .pre .3) in (
+      all-rows p es (a .i) 2 (sym (c .before .before .before .before .before .before .before .before .before .before .before .before .before .before .before .before .before .before .before .pre .2)) (a .bad) (a .twice) (c .before .before .before .before .before .before .before .before .before .before .before .before .before .before .before .before .before .before .before .pre .5) (c .before .before .before .before .before .before .before .before .before .before .before .before .before .before .before .before .before .before .before .pre .6) (c .before .before .before .before .before .before .before .before .before .before .put-own .ensures .0)
+          (rw (element-rows p es (a .i) (getD starts (a .i) 0) 2 (start-read p starts (a .i) l) refl (a .e) (c .before .before .before .before .before .before .before .before .before .before .before .before .before .before .before .before .before .before .before .pre .3) (a .parent) (c .before .before .before .before .before .before .before .before .before .before .before .before .before .before .before .before .before .before .before .pre .4) (a .again) (a .endless) (c .before .before .before .before .before .before .before .before .before .before .before .before .before .before .before .before .before .before .before .pre .7) (c .before .before .before .before .before .before .before .before .before .before .before .before .before .before .before .before .before .before .before .pre .8))
+          (puts-then (c .before .before .before .before .before .before .put-fields .ensures .0) (c .before .before .put-references .ensures .0))),
+      omega (arith, c .before .before .before .before .before .before .before .before .before .before .put-own .ensures .1, c .before .before .before .before .before .before .put-fields .ensures .1, c .before .before .put-references .ensures .1),
+    )
 
 pub put-faults-spec : {M : Type 1} → statement M
 put-faults-spec =
