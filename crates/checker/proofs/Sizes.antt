@@ -47,9 +47,10 @@ module _ {M : Type 1} (𝓤 : URA M) (H : Heap 𝓤) (𝓜 : Model 𝓤 H) (𝓖
       (λ κs qs a are l₀ l₁ l₂ l₃ l₄ l₅ l₆ l₇ l₈ l₉ l₁₀ l₁₁ l₁₂ l₁₃ l₁₄ l₁₅. (
         ((tt, (tt, (tt, (record { fits = are .0 .0 .1 .0 }, tt)))), ((tt, (tt, (tt, (record { fits = are .1 .0 .0 .1 .0 }, tt)))), ((tt, (tt, (tt, (record { fits = are .1 .1 .0 .0 .1 .0 }, tt)))), tt))),
         (tt, tt, list-typed 𝓤 H A (givenOf 𝓤 H 𝓜 𝓖) (s .numbers), (refl, refl, tt, tt, (s .fits, tt, tt, refl, tt, tt, (refl, refl, tt, tt, refl, refl, tt, tt, (tt, (_, tt, λ r. (s .fits, tt, tt, refl, tt, tt, (_, tt, λ r₁. (refl, refl, tt, tt, refl, refl, tt, tt, (_, tt, λ r₂ v. (_, tt, λ r₃. (tt, _)))))))))))),
-        (l₄, refl)))
+        (l₄, refl),
+      ))
       (λ κs qs a l ν δ. known-core (((κs .0, (ν ∷ [], κs .1 .1)), (qs .0, (fullShare, qs .1 .1)), tt, (a .0, (length (a .1 .0 .now), (record { ptr = (l, 0); name = δ; now = replicate (s .numbers) 0 }, a .1 .1))), _), tt))
       (cited 𝓤 H (tripleOf 𝓤 H A count.signature (count.spec 𝓤 H A (𝓜 .mem) (𝓡 .run))) 𝓜 𝓡 env count-def.name count-def.routine calls-count (count-thm.met 𝓤 H 𝓜 𝓖 𝓡))
       (cited 𝓤 H (tripleOf 𝓤 H A answer.signature (answer.spec 𝓤 H A (𝓜 .mem) (𝓡 .run))) 𝓜 𝓡 env answer-def.name answer-def.routine calls-answer (answer-thm.met 𝓤 H 𝓜 𝓖 𝓡)) calls-gather
       (λ κs a d zs ws φ. let g = check-gathers (a .0 .now) zs (recordsIn d) (a .1 .0 .now) (φ .2) (φ .1) in
-        (g .within, λ r e. factI 𝓤 _ (emp 𝓤) (subst (λ x. verdictOf x ≡ checkOf (a .0 .now) (length (a .1 .0 .now))) (sym e) (φ .0), subst (λ x. recordsIn x ≡ countOf (a .0 .now) (length (a .1 .0 .now))) (sym e) (φ .1), g .after, φ .3)))
+      (g .within, λ r e. factI 𝓤 _ (emp 𝓤) (subst (λ x. verdictOf x ≡ checkOf (a .0 .now) (length (a .1 .0 .now))) (sym e) (φ .0), subst (λ x. recordsIn x ≡ countOf (a .0 .now) (length (a .1 .0 .now))) (sym e) (φ .1), g .after, φ .3)))

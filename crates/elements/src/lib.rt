@@ -1,9 +1,10 @@
 // The rules that look from a device element at what it refers to: its parent, and its list of entries. Entries are read from the pool and
 // looked up as they are needed: no list of what they name is kept.
 mod doubles;
+mod links;
 
 ghost use mathlib.Core.Path.{_≡_};
-ghost use mathlib.Core.Bool.{false};
+ghost use mathlib.Core.Bool.{true, false};
 ghost use mathlib.Core.List.{[], _∷_, _++_};
 ghost use Prim.Native.Nat.{ℕ, _+_, _≤_, _<_, _^_};
 ghost use lib.Dec.{eqb};
@@ -14,6 +15,7 @@ ghost use Rattle.faults.specs.Emission.{Puts};
 ghost use Rattle.naming.specs.Naming.{isData, kindOf, ddiOf, tagOf};
 ghost use Rattle.naming.specs.Chained.{Names};
 ghost use Rattle.rules.specs.Table.{isParent, wrongKind, doubled, entryNamed, referenceRows, listRows};
+ghost use Rattle.fields.specs.Clean.{Apart};
 ghost use Rattle.elements.specs.Lists.{entryTag};
 
 pub fn is_parent(kind: u16) -> bool
@@ -198,4 +200,25 @@ pub fn put_references(
         faults,
         n9,
     )
+}
+
+// Whether each entry of a long list names process data or a property, and no two the same DDI: then it breaks none of the rules on
+// entries. A list of more entries than there are records is not looked at: it names a record twice, or none.
+pub fn are_apart(
+    p: &[u8],
+    starts: &[u16],
+    heads: &[u16],
+    next: &[u16],
+    at: u16,
+    size: usize,
+) -> bool
+    requires { ⌜ Names (now p) (now starts) (now heads) (now next) × (size ≤ 32768) ⌝ }
+    ensures { λ r. ⌜ (r ≡ true → Apart (λ (m : ℕ). tagOf (now (p .entry)) (entriesOf (now (p .entry)) (now (starts .entry))) (entryNamed (now (p .entry)) (entriesOf (now (p .entry)) (now (starts .entry))) at m)) size) ⌝ }
+{
+    if starts.len() <= size {
+        return false;
+    }
+    let mut none = [0u16; 1];
+    let walked = links::walk_long(p, starts, heads, next, at, size, 0, &mut none, 0);
+    (walked.n == 0) & (walked.tagged == size)
 }

@@ -29,10 +29,7 @@ fn judgement_of(records: usize, number: u32, error: u8) -> Judged
     ensures { λ r. ⌜ (r .records ≡ records) × (r .judgement .number ≡ number) × (r .judgement .error ≡ error) ⌝ }
 {
     let judgement = Judgement { number, error };
-    Judged {
-        records,
-        judgement,
-    }
+    Judged { records, judgement }
 }
 
 // What process data allows, by its bits.
