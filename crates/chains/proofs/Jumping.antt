@@ -11,19 +11,15 @@ use lib.Dec.{eqb}
 use lib.ListN.{length, getD, set, length-set}
 use lib.Seq.{getD-set-same, getD-set-other}
 use Rattle.wire.proofs.Either.{neither}
+use Rattle.pool.specs.Reading.{Entry}
 use Rattle.naming.specs.Naming.{parentOf, climb}
-use Rattle.naming.specs.Lists.{shown, Ended}
-use Rattle.chains.specs.Steps.{Climbs, Doubles, Closed}
 use Rattle.naming.proofs.Climb.{climb-add, climb-zero, zero-stays, ended, parent-zero, parent-le}
-use Rattle.naming.proofs.Shown.{shown-long}
+use Rattle.chains.specs.Steps.{Climbs, Doubles, Closed, Ended}
 
 climb-le : (f : ℕ → ℕ) (n : ℕ) → ((r : ℕ) → r ≤ n → f r ≤ n) → (k r : ℕ) → r ≤ n → climb f k r ≤ n
 unfolding climb
 climb-le f n within zero r h = h
 climb-le f n within (suc k) r h = climb-le f n within k (f r) (within r h)
-
-parent-within : (p table : List ℕ) (n r : ℕ) → parentOf p (shown table n) r ≤ n
-parent-within p table n r = omega (arith, parent-le p (shown table n) r, shown-long table n)
 
 -- x is q after m steps or more
 abbrev Climbed : (ℕ → ℕ) → ℕ → ℕ → ℕ → Type 0
@@ -163,101 +159,98 @@ jump-end n before ups ended r h e j = (
 
 -- ---- the first step, from each number to one that may be before it
 
--- what holds when the numbers up to i have been stepped from
-pub record Rising (f : ℕ → ℕ) (i : ℕ) (ups : List ℕ) (left : Bool) : Type 0 where
-  pub climbs : Climbs f i 1 ups
-  pub zeros : left ≡ false → (q : ℕ) → q ≤ i → getD ups q 0 ≡ 0
+-- what holds when the numbers below r have been stepped from
+pub record Rising (f : ℕ → ℕ) (r : ℕ) (ups : List ℕ) (left : Bool) : Type 0 where
+  pub climbs : (q : ℕ) → q < r → Climbed f 1 q (getD ups q 0)
+  pub zeros : left ≡ false → (q : ℕ) → q < r → getD ups q 0 ≡ 0
 
-pub rise-start : (f : ℕ → ℕ) (ups : List ℕ) → f 0 ≡ 0 → getD ups 0 0 ≡ 0 → Rising f 0 ups false
+pub rise-start : (f : ℕ → ℕ) (ups : List ℕ) → f 0 ≡ 0 → getD ups 0 0 ≡ 0 → Rising f 1 ups false
 rise-start f ups z e =
     record {
-      climbs = λ (q : ℕ) (l : q ≤ 0). let s : q ≡ 0 = omega arith in rw s (1, omega arith, e ∙ sym (climb-zero f 1 z));
-      zeros = λ t (q : ℕ) (l : q ≤ 0). let s : q ≡ 0 = omega arith in rw s e;
+      climbs = λ (q : ℕ) (l : q < 1). let s : q ≡ 0 = omega arith in rw s (1, omega arith, e ∙ sym (climb-zero f 1 z));
+      zeros = λ t (q : ℕ) (l : q < 1). let s : q ≡ 0 = omega arith in rw s e;
     }
 
-module _ (f : ℕ → ℕ) (i : ℕ) (ups : List ℕ) (left : Bool) (room : i + 1 < length ups) (rising : Rising f i ups left) where
-  rise : (v : ℕ) → Climbed f 1 (i + 1) v → Rising f (i + 1) (set ups (i + 1) v) (left || not (eqb v 0))
+module _ (f : ℕ → ℕ) (r : ℕ) (ups : List ℕ) (left : Bool) (room : r < length ups) (rising : Rising f r ups left) where
+  rise : (v : ℕ) → Climbed f 1 r v → Rising f (r + 1) (set ups r v) (left || not (eqb v 0))
   rise v c =
       record {
-        climbs = λ (q : ℕ) (l : q ≤ i + 1). stored (Climbed f 1) ups (i + 1) v room c q (λ (w : q ≡ i + 1 → ⊥). rising .climbs q (omega arith));
-        zeros = λ (t : left || not (eqb v 0) ≡ false) (q : ℕ) (l : q ≤ i + 1).
+        climbs = λ (q : ℕ) (l : q < r + 1). stored (Climbed f 1) ups r v room c q (λ (w : q ≡ r → ⊥). rising .climbs q (omega arith));
+        zeros = λ (t : left || not (eqb v 0) ≡ false) (q : ℕ) (l : q < r + 1).
             let b = neither left (not (eqb v 0)) t in
-            stored (λ (k x : ℕ). x ≡ 0) ups (i + 1) v room (eqb-true v 0 (not-false (eqb v 0) (b .1))) q (λ (w : q ≡ i + 1 → ⊥). rising .zeros (b .0) q (omega arith));
+            stored (λ (k x : ℕ). x ≡ 0) ups r v room (eqb-true v 0 (not-false (eqb v 0) (b .1))) q (λ (w : q ≡ r → ⊥). rising .zeros (b .0) q (omega arith));
       }
 
   -- one step, and the steps of a number that has been stepped from
-  pub rise-once : (v : ℕ) → v ≡ f (i + 1) → Rising f (i + 1) (set ups (i + 1) v) (left || not (eqb v 0))
+  pub rise-once : (v : ℕ) → v ≡ f r → Rising f (r + 1) (set ups r v) (left || not (eqb v 0))
   unfolding climb
   rise-once v e = rise v (1, omega arith, e)
 
-  pub rise-on : (q : ℕ) → q ≡ f (i + 1) → q ≤ i → Rising f (i + 1) (set ups (i + 1) (getD ups q 0)) (left || not (eqb (getD ups q 0) 0))
+  pub rise-on : (q : ℕ) → q ≡ f r → q < r → Rising f (r + 1) (set ups r (getD ups q 0)) (left || not (eqb (getD ups q 0) 0))
   unfolding climb
   rise-on q e l =
       let c = rising .climbs q l in
       rise (getD ups q 0) (c .0 + 1, omega arith, c .2 ∙ rw (add-one (c .0)) (ap (climb f (c .0)) e))
 
 -- what the chains of parents have come to after m steps or more
-module _ (p table : List ℕ) (n m : ℕ) (ups : List ℕ) (climbs : Climbs (parentOf p (shown table n)) n m ups) where
-  up : ℕ → ℕ
-  up = parentOf p (shown table n)
-
-  stays : up 0 ≡ 0
-  unfolding up
-  stays = parent-zero p (shown table n)
-
-  within : (r : ℕ) → r ≤ n → up r ≤ n
-  unfolding up
-  within r l = parent-within p table n r
+module _ (p : List ℕ) (es : List Entry) (m : ℕ) (ups : List ℕ) (climbs : Climbs (parentOf p es) (length es) m ups) where
+  within : (r : ℕ) → r ≤ length es → parentOf p es r ≤ length es
+  within r l = parent-le p es r
 
   pub climbs-zero : getD ups 0 0 ≡ 0
-  unfolding up
-  climbs-zero = let c = climbs 0 (omega arith) in c .2 ∙ climb-zero up (c .0) stays
+  climbs-zero = let c = climbs 0 (omega arith) in c .2 ∙ climb-zero (parentOf p es) (c .0) (parent-zero p es)
 
-  pub climbs-within : (r : ℕ) → r ≤ n → getD ups r 0 ≤ n
-  unfolding up
-  climbs-within r l = let c = climbs r l in rw (c .2) (climb-le up n within (c .0) r l)
+  pub climbs-within : (r : ℕ) → r ≤ length es → getD ups r 0 ≤ length es
+  climbs-within r l = let c = climbs r l in rw (c .2) (climb-le (parentOf p es) (length es) within (c .0) r l)
 
-  zero-ends : (r : ℕ) → r ≤ n → getD ups r 0 ≡ 0 → climb (parentOf p (shown table n)) n r ≡ 0
-  unfolding up
-  zero-ends r l e = let c = climbs r l in ended up n stays within r (c .0) l (sym (c .2) ∙ e)
+  zero-ends : (r : ℕ) → r ≤ length es → getD ups r 0 ≡ 0 → climb (parentOf p es) (length es) r ≡ 0
+  zero-ends r l e = let c = climbs r l in ended (parentOf p es) (length es) (parent-zero p es) within r (c .0) l (sym (c .2) ∙ e)
 
   -- as many steps as there are records
-  pub climbed-ends : n ≤ m → Ended p (shown table n) n ups
-  unfolding up
+  pub climbed-ends : length es ≤ m → Ended p es ups
   climbed-ends h r l =
       let c = climbs r l in
-      (zero-ends r l, λ (e : climb up n r ≡ 0). c .2 ∙ zero-stays up n (c .0) r stays (omega (arith, c .1)) e)
+      (zero-ends r l, λ (e : climb (parentOf p es) (length es) r ≡ 0). c .2 ∙ zero-stays (parentOf p es) (length es) (c .0) r (parent-zero p es) (omega (arith, c .1)) e)
 
   -- no chain is left that has not ended
-  pub none-left : ((r : ℕ) → r ≤ n → getD ups r 0 ≡ 0) → Ended p (shown table n) n ups
+  pub none-left : ((r : ℕ) → r ≤ length es → getD ups r 0 ≡ 0) → Ended p es ups
   none-left z r l = (zero-ends r l, λ e. z r l)
 
   -- where steps from chains that have not ended lead to such chains, those never end: the chain is shorter from there
-  open-step : Closed n ups → 1 ≤ m → (k r : ℕ) → r ≤ n → climb up k r ≡ 0 → ((i q : ℕ) → i < k → q ≤ n → climb up i q ≡ 0 → getD ups q 0 ≡ 0) → getD ups r 0 ≡ 0
-  unfolding up
+  open-step : Closed (length es) ups → 1 ≤ m → (k r : ℕ) → r ≤ length es → climb (parentOf p es) k r ≡ 0
+      → ((i q : ℕ) → i < k → q ≤ length es → climb (parentOf p es) i q ≡ 0 → getD ups q 0 ≡ 0) → getD ups r 0 ≡ 0
   open-step s o k r h z shorter = go (ℕ-discrete (getD ups r 0) 0) (decLe (c .0) k)
     where
-      c : (j : ℕ) × (m ≤ j) × (getD ups r 0 ≡ climb up j r)
+      c : (j : ℕ) × (m ≤ j) × (getD ups r 0 ≡ climb (parentOf p es) j r)
       c = climbs r h
 
-      rest : c .0 ≤ k → climb up (k - c .0) (getD ups r 0) ≡ 0
+      rest : c .0 ≤ k → climb (parentOf p es) (k - c .0) (getD ups r 0) ≡ 0
       rest a =
           let e : c .0 + (k - c .0) ≡ k = omega arith in
-          ap (climb up (k - c .0)) (c .2) ∙ sym (climb-add up (c .0) (k - c .0) r) ∙ ap (λ (i : ℕ). climb up i r) e ∙ z
+          ap (climb (parentOf p es) (k - c .0)) (c .2) ∙ sym (climb-add (parentOf p es) (c .0) (k - c .0) r) ∙ ap (λ (i : ℕ). climb (parentOf p es) i r) e ∙ z
 
       go : Dec (getD ups r 0 ≡ 0) → Dec (c .0 ≤ k) → getD ups r 0 ≡ 0
       go (yes e) a = e
-      go (no d) (no a) = c .2 ∙ zero-stays up k (c .0) r stays (omega arith) z
+      go (no d) (no a) = c .2 ∙ zero-stays (parentOf p es) k (c .0) r (parent-zero p es) (omega arith) z
       go (no d) (yes a) = absurd (s r h d (shorter (k - c .0) (getD ups r 0) (omega (arith, c .1)) (climbs-within r h) (rest a)))
 
-  open-on : Closed n ups → 1 ≤ m → (b k r : ℕ) → k ≤ b → r ≤ n → climb up k r ≡ 0 → getD ups r 0 ≡ 0
+  open-on : Closed (length es) ups → 1 ≤ m → (b k r : ℕ) → k ≤ b → r ≤ length es → climb (parentOf p es) k r ≡ 0 → getD ups r 0 ≡ 0
   open-on s o zero k r l h z = open-step s o k r h z (λ (i q : ℕ) (b : i < k). absurd (omega arith))
   open-on s o (suc b) k r l h z =
-      open-step s o k r h z (λ (i q : ℕ) (w : i < k) (v : q ≤ n) (e : climb up i q ≡ 0). open-on s o b i q (omega arith) v e)
+      open-step s o k r h z (λ (i q : ℕ) (w : i < k) (v : q ≤ length es) (e : climb (parentOf p es) i q ≡ 0). open-on s o b i q (omega arith) v e)
 
   -- a round in which no chain has come to its end
-  pub closed-ends : Closed n ups → 1 ≤ m → (after : List ℕ) → Climbs (parentOf p (shown table n)) n (m + m) after → ((r : ℕ) → r ≤ n → getD ups r 0 ≡ 0 → getD after r 0 ≡ 0) → Ended p (shown table n) n after
-  unfolding up
+  pub closed-ends : Closed (length es) ups → 1 ≤ m → (after : List ℕ) → Climbs (parentOf p es) (length es) (m + m) after
+      → ((r : ℕ) → r ≤ length es → getD ups r 0 ≡ 0 → getD after r 0 ≡ 0) → Ended p es after
   closed-ends s o after on stay r l =
       let d = on r l in
-      (λ (e : getD after r 0 ≡ 0). ended up n stays within r (d .0) l (sym (d .2) ∙ e), λ (e : climb up n r ≡ 0). stay r l (open-on s o n n r (omega arith) l e))
+      (λ (e : getD after r 0 ≡ 0). ended (parentOf p es) (length es) (parent-zero p es) within r (d .0) l (sym (d .2) ∙ e), λ (e : climb (parentOf p es) (length es) r ≡ 0). stay r l (open-on s o (length es) (length es) r (omega arith) l e))
+
+-- what stands under the numbers tells whether the chains end
+pub ended-same : (p : List ℕ) (es : List Entry) (ups : List ℕ) → Ended p es ups → (r : ℕ) → r ≤ length es
+    → not (eqb (getD ups r 0) 0) ≡ not (eqb (climb (parentOf p es) (length es) r) 0)
+ended-same p es ups ended r l = go (ℕ-discrete (getD ups r 0) 0)
+  where
+    go : Dec (getD ups r 0 ≡ 0) → not (eqb (getD ups r 0) 0) ≡ not (eqb (climb (parentOf p es) (length es) r) 0)
+    go (yes e) = ap not (eq-eqb (getD ups r 0) 0 e ∙ sym (eq-eqb (climb (parentOf p es) (length es) r) 0 (ended r l .0 e)))
+    go (no d) = ap not (ne-eqb (getD ups r 0) 0 d ∙ sym (ne-eqb (climb (parentOf p es) (length es) r) 0 (λ (e : climb (parentOf p es) (length es) r ≡ 0). d (ended r l .1 e))))

@@ -1,2 +1,4 @@
 -- What belongs to no one function.
 pub mod Jumping
+pub mod Falling
+pub mod Noting

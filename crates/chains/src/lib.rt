@@ -1,46 +1,36 @@
-// Chains of parents: which of them end. The list is lent.
+// Chains of parents and which of them end, and the numbers of device elements and which of them come again: what is known of a record only
+// by many others, found for all records at once and marked under them.
 ghost use mathlib.Core.Path.{_≡_};
-ghost use mathlib.Core.Bool.{false};
-ghost use Prim.Native.Nat.{ℕ, _+_, _*_, _≤_, _<_};
+ghost use mathlib.Core.Bool.{false, not, _&&_};
+ghost use Prim.Native.Nat.{ℕ, suc, _+_, _*_, _≤_, _<_};
+ghost use lib.Dec.{eqb};
 ghost use lib.ListN.{length, getD};
-ghost use Rattle.pool.specs.Reading.{width};
-ghost use Rattle.naming.specs.Records.{idAt};
-ghost use Rattle.naming.specs.Naming.{parentOf};
-ghost use Rattle.naming.specs.Lists.{shown, Blank, Indexed, Ended};
-ghost use Rattle.chains.specs.Steps.{Climbs, Doubles, Closed};
+ghost use Rattle.pool.specs.Walk.{entriesOf, Divided};
+ghost use Rattle.marks.specs.Bits.{bitAt};
+ghost use Rattle.naming.specs.Records.{kindAt};
+ghost use Rattle.naming.specs.Naming.{parentOf, climb};
+ghost use Rattle.naming.specs.Lists.{Blank};
+ghost use Rattle.naming.specs.Chained.{Names};
+ghost use Rattle.rules.specs.Table.{repeats, elementKey};
+ghost use Rattle.chains.specs.Steps.{Climbs, Doubles, Closed, Ended};
+ghost use Rattle.chains.specs.Noted.{Noted};
 
-// The number of the device element that the parent of record i names, 0 where a chain ends.
-fn parent_at(p: &[u8], table: &[u16], count: usize, index: &[u16], i: usize) -> u16
-    requires { ⌜ (count * width ≤ length (now table)) × (count ≤ 8192) × Indexed (idAt (shown (now table) count)) count (now index) × (i < count) ⌝ }
-    ensures { λ r. ⌜ r ≡ parentOf (now (p .entry)) (shown (now (table .entry)) count) (i + 1) ⌝ }
-{
-    if table[i * 4 + 2] != 2 {
-        return 0;
-    }
-    let element = views::device_element(p, table[i * 4]);
-    let parent = naming::named_at(index, element.parent);
-    if naming::kind_at(table, parent) == 2 {
-        return parent;
-    }
-    0
-}
-
-// Puts under the number of each device element where a step up leads, or more steps: from a parent that stands before it on
-// to where that one's lead. Tells whether a chain is left that has not ended.
-fn parents(p: &[u8], table: &[u16], count: usize, index: &[u16], ups: &mut [u16]) -> bool
-    requires { ⌜ (count * width ≤ length (now table)) × (count ≤ 8192) × Indexed (idAt (shown (now table) count)) count (now index) × (count < length (now ups)) × Blank (now ups) ⌝ }
-    ensures { λ left. ⌜ Climbs (parentOf (now (p .entry)) (shown (now (table .entry)) count)) count 1 (now (ups .exit)) × (left ≡ false → (r : ℕ) → r ≤ count → getD (now (ups .exit)) r 0 ≡ 0) ⌝ }
+// Puts under the number of each record where a step up leads, or more steps: from a parent that stands before it on to where
+// that one's lead. Tells whether a chain is left that has not ended.
+fn parents(p: &[u8], starts: &[u16], heads: &[u16], next: &[u16], ups: &mut [u16]) -> bool
+    requires { ⌜ Names (now p) (now starts) (now heads) (now next) × (length (now starts) ≤ length (now ups)) × Blank (now ups) ⌝ }
+    ensures { λ left. ⌜ Climbs (parentOf (now (p .entry)) (entriesOf (now (p .entry)) (now (starts .entry)))) (length (entriesOf (now (p .entry)) (now (starts .entry)))) 1 (now (ups .exit)) × (left ≡ false → (r : ℕ) → r ≤ length (entriesOf (now (p .entry)) (now (starts .entry))) → getD (now (ups .exit)) r 0 ≡ 0) ⌝ }
 {
     let mut left = false;
-    let mut i: usize = 0;
-    while i < count {
-        let mut up = parent_at(p, table, count, index, i);
-        if up as usize <= i {
+    let mut r: usize = 1;
+    while r < starts.len() {
+        let mut up = naming::parent_at(p, starts, heads, next, r as u16);
+        if (up as usize) < r {
             up = ups[up as usize];
         }
-        ups[i + 1] = up;
+        ups[r] = up;
         left = left | (up != 0);
-        i += 1;
+        r += 1;
     }
     left
 }
@@ -64,13 +54,14 @@ fn jump(ups: &mut [u16], count: usize) -> bool
 }
 
 // Finds for every record whether its chain of parents ends. After a round in which none has come to its end, none will.
-pub fn chains(p: &[u8], table: &[u16], count: usize, index: &[u16], ups: &mut [u16])
-    requires { ⌜ (count * width ≤ length (now table)) × (count ≤ 8192) × Indexed (idAt (shown (now table) count)) count (now index) × (count < length (now ups)) × Blank (now ups) ⌝ }
-    ensures { λ _. ⌜ Ended (now (p .entry)) (shown (now (table .entry)) count) count (now (ups .exit)) ⌝ }
+fn chains(p: &[u8], starts: &[u16], heads: &[u16], next: &[u16], ups: &mut [u16])
+    requires { ⌜ Names (now p) (now starts) (now heads) (now next) × (length (now starts) ≤ length (now ups)) × Blank (now ups) ⌝ }
+    ensures { λ _. ⌜ Ended (now (p .entry)) (entriesOf (now (p .entry)) (now (starts .entry))) (now (ups .exit)) ⌝ }
 {
-    if !parents(p, table, count, index, ups) {
+    if !parents(p, starts, heads, next, ups) {
         return;
     }
+    let count = starts.len() - 1;
     let mut steps: usize = 1;
     while steps < count {
         if !jump(ups, count) {
@@ -78,4 +69,65 @@ pub fn chains(p: &[u8], table: &[u16], count: usize, index: &[u16], ups: &mut [u
         }
         steps *= 2;
     }
+}
+
+// Marks the records under whose numbers no 0 stands.
+fn mark_left(ups: &[u16], count: usize, marks: &mut [u8])
+    requires { ⌜ (count < length (now ups)) × Blank (now marks) × (count ≤ 8 * length (now marks)) ⌝ }
+    ensures { λ _. ⌜ ((i : ℕ) → i < count → bitAt (now (marks .exit)) i ≡ not (eqb (getD (now (ups .entry)) (suc i) 0) 0)) ⌝ }
+{
+    let mut i: usize = 0;
+    while i < count {
+        if ups[i + 1] != 0 {
+            marks::mark(marks, i);
+        }
+        i += 1;
+    }
+}
+
+// Rule 9: marks the records whose chains of parents do not end.
+pub fn mark_endless(p: &[u8], starts: &[u16], heads: &[u16], next: &[u16], marks: &mut [u8])
+    requires { ⌜ Names (now p) (now starts) (now heads) (now next) × Blank (now marks) × (length (now starts) ≤ 8 * length (now marks)) ⌝ }
+    ensures { λ _. ⌜ ((i : ℕ) → suc i < length (now (starts .entry)) → bitAt (now (marks .exit)) i ≡ not (eqb (climb (parentOf (now (p .entry)) (entriesOf (now (p .entry)) (now (starts .entry)))) (length (entriesOf (now (p .entry)) (now (starts .entry)))) (suc i)) 0)) ⌝ }
+{
+    let mut ups = [0u16; 5462];
+    chains(p, starts, heads, next, &mut ups);
+    mark_left(&ups, starts.len() - 1, marks);
+}
+
+// Whether record i is a device element with the number of an earlier one. Marks its number.
+fn repeats_number(p: &[u8], starts: &[u16], i: usize, numbers: &mut [u8]) -> bool
+    requires { ⌜ (i + 1 < length (now starts)) × (65536 ≤ 8 * length (now numbers)) × Noted 65536 (elementKey (now p) (entriesOf (now p) (now starts))) i (now numbers) ⌝ }
+    ensures { λ r. ⌜ (r ≡ (eqb (kindAt (entriesOf (now (p .entry)) (now (starts .entry))) i) 2 && repeats (elementKey (now (p .entry)) (entriesOf (now (p .entry)) (now (starts .entry)))) (elementKey (now (p .entry)) (entriesOf (now (p .entry)) (now (starts .entry))) i) i (length (entriesOf (now (p .entry)) (now (starts .entry)))))) × Noted 65536 (elementKey (now (p .entry)) (entriesOf (now (p .entry)) (now (starts .entry)))) (i + 1) (now (numbers .exit)) ⌝ }
+{
+    let at = starts[i];
+    if records::view::kind(p, at) != 2 {
+        return false;
+    }
+    let element = views::device_element(p, at);
+    marks::note(numbers, element.number as usize)
+}
+
+// Marks the records that repeat a number, by a list of marks under the numbers.
+fn mark_numbers(p: &[u8], starts: &[u16], numbers: &mut [u8], marks: &mut [u8])
+    requires { ⌜ (0 < length (now starts)) × (65536 ≤ 8 * length (now numbers)) × Blank (now numbers) × Blank (now marks) × (length (now starts) ≤ 8 * length (now marks)) ⌝ }
+    ensures { λ _. ⌜ ((i : ℕ) → suc i < length (now (starts .entry)) → kindAt (entriesOf (now (p .entry)) (now (starts .entry))) i ≡ 2 → bitAt (now (marks .exit)) i ≡ repeats (elementKey (now (p .entry)) (entriesOf (now (p .entry)) (now (starts .entry)))) (elementKey (now (p .entry)) (entriesOf (now (p .entry)) (now (starts .entry))) i) i (length (entriesOf (now (p .entry)) (now (starts .entry))))) ⌝ }
+{
+    let count = starts.len() - 1;
+    let mut i: usize = 0;
+    while i < count {
+        if repeats_number(p, starts, i, numbers) {
+            marks::mark(marks, i);
+        }
+        i += 1;
+    }
+}
+
+// Rule 8: marks the device elements whose number an earlier one has.
+pub fn mark_repeats(p: &[u8], starts: &[u16], marks: &mut [u8])
+    requires { ⌜ Divided (now p) (now starts) × Blank (now marks) × (length (now starts) ≤ 8 * length (now marks)) ⌝ }
+    ensures { λ _. ⌜ ((i : ℕ) → suc i < length (now (starts .entry)) → kindAt (entriesOf (now (p .entry)) (now (starts .entry))) i ≡ 2 → bitAt (now (marks .exit)) i ≡ repeats (elementKey (now (p .entry)) (entriesOf (now (p .entry)) (now (starts .entry)))) (elementKey (now (p .entry)) (entriesOf (now (p .entry)) (now (starts .entry))) i) i (length (entriesOf (now (p .entry)) (now (starts .entry))))) ⌝ }
+{
+    let mut numbers = [0u8; 8192];
+    mark_numbers(p, starts, &mut numbers, marks);
 }

@@ -1,20 +1,18 @@
 -- Rule 12's walk: what stands in the list of DDIs seen, and what that says of the tags. Assumes nothing.
 use mathlib.Core.Path.{_≡_, refl, sym, ap, _∙_}
-use mathlib.Core.Bool.{Bool, true, false, _||_, true≢false}
+use mathlib.Core.Bool.{Bool, true, false}
 use mathlib.Core.Logic.{_⊎_, inl, inr, ⊎-elim}
 use mathlib.Core.List.{List}
 use Prim.Native.Nat.{ℕ, zero, suc, _+_, _<_, _≤_}
 use native.Mathlib.Nat.{eq-or-lt-of-le}
 use native.Mathlib.Decide.{decLt}
 use native.Mathlib.Omega.{arith}
-use borrow.Author.Tests.{eqb-true, eqb-false, ne-eqb}
+use borrow.Author.Tests.{ne-eqb}
 use lib.Dec.{eqb}
 use lib.ListN.{length, getD, set}
 use lib.Seq.{getD-set-same, getD-set-other}
-use Rattle.wire.proofs.Either.{neither}
 use Rattle.naming.specs.Naming.{among}
 use Rattle.rules.specs.Table.{doubled}
-use Rattle.rules.proofs.Truth.{either}
 use Rattle.rules.proofs.Doubles.{some-among}
 use Rattle.elements.specs.Lists.{Holds, Seen}
 
@@ -22,18 +20,6 @@ use Rattle.elements.specs.Lists.{Holds, Seen}
 
 pub holds-none : {l : List ℕ} {a x : ℕ} → Holds l a a x → ⊥
 holds-none h = omega (arith, h .after, h .before)
-
--- whether x has been found before a place, and then one place further
-pub record Finding (l : List ℕ) (from k x : ℕ) (found : Bool) : Type 0 where
-  pub some : found ≡ true → Holds l from k x
-  pub none : found ≡ false → Holds l from k x → ⊥
-
-pub finding-start : (l : List ℕ) (from x : ℕ) → Finding l from from x false
-finding-start l from x =
-    record { some = λ (e : false ≡ true). absurd (true≢false (sym e)); none = λ (e : false ≡ false) (h : Holds l from from x). holds-none h }
-
-further : {l : List ℕ} {from k x : ℕ} → Holds l from k x → Holds l from (k + 1) x
-further h = record { at = h .at; after = h .after; before = omega (arith, h .before); is = h .is }
 
 -- a place before the next is before this one or is this one
 last : {l : List ℕ} {from k x : ℕ} → Holds l from (k + 1) x → Holds l from k x ⊎ (getD l k 0 ≡ x)
@@ -43,20 +29,12 @@ last {l} {from} {k} {x} h =
     (λ (b : h .at < k). inl (record { at = h .at; after = h .after; before = b; is = h .is }))
     (eq-or-lt-of-le (omega (arith, h .before)))
 
-pub finding-more : (l : List ℕ) (from k x : ℕ) (found : Bool) → from ≤ k → Finding l from k x found → Finding l from (k + 1) x (found || eqb (getD l k 0) x)
-finding-more l from k x found b f =
-    record {
-      some =
-          λ (e : found || eqb (getD l k 0) x ≡ true).
-          ⊎-elim
-          (λ (t : found ≡ true). further (f .some t))
-          (λ (t : eqb (getD l k 0) x ≡ true). record { at = k; after = b; before = omega arith; is = eqb-true (getD l k 0) x t })
-          (either found (eqb (getD l k 0) x) e);
-      none =
-          λ (e : found || eqb (getD l k 0) x ≡ false) (h : Holds l from (k + 1) x).
-          let n : (found ≡ false) × (eqb (getD l k 0) x ≡ false) = neither found (eqb (getD l k 0) x) e in
-          ⊎-elim (λ (i : Holds l from k x). f .none (n .0) i) (λ (i : getD l k 0 ≡ x). eqb-false (getD l k 0) x (n .1) i) (last h);
-    }
+-- one place
+pub holds-here : {l : List ℕ} {k x : ℕ} → getD l k 0 ≡ x → Holds l k (k + 1) x
+holds-here {l} {k} e = record { at = k; after = omega arith; before = omega arith; is = e }
+
+pub holds-one : {l : List ℕ} {k x : ℕ} → Holds l k (k + 1) x → getD l k 0 ≡ x
+holds-one {l} {k} {x} h = ⊎-elim (λ (i : Holds l k k x). absurd (holds-none i)) (λ (e : getD l k 0 ≡ x). e) (last h)
 
 -- nothing in a part, and nothing in the next
 pub holds-nowhere : {l : List ℕ} {k end x : ℕ} → (Holds l 0 k x → ⊥) → (Holds l k end x → ⊥) → Holds l 0 end x → ⊥
@@ -78,6 +56,16 @@ among-none tag x (suc n) h =
 pub plain : (tag : ℕ → ℕ) (m : ℕ) → tag m ≡ 0 → doubled tag m ≡ false
 unfolding doubled
 plain tag m e = rw e
+
+-- nor does one whose tag no earlier entry has
+pub lone : (tag : ℕ → ℕ) (m : ℕ) → (tag m ≡ 0 → ⊥) → ((j : ℕ) → j < m → tag j ≡ tag m → ⊥) → doubled tag m ≡ false
+unfolding doubled
+lone tag m t none = rw (ne-eqb (tag m) 0 t, among-none tag (tag m) m none)
+
+-- one whose tag an earlier entry has doubles that
+pub earlier : (tag : ℕ → ℕ) (m j : ℕ) → (tag m ≡ 0 → ⊥) → j < m → tag j ≡ tag m → doubled tag m ≡ true
+unfolding doubled
+earlier tag m j t l e = rw (ne-eqb (tag m) 0 t, some-among tag (tag m) m j l e)
 
 tagged : (x : ℕ) → eqb (suc x) 0 ≡ false
 tagged x = ne-eqb (suc x) 0 (λ (e : suc x ≡ 0). omega arith)

@@ -3,6 +3,13 @@ use Prim.Native.Nat.{ℕ, suc, _≤_, _<_}
 use mathlib.Core.Path.{_≡_}
 use mathlib.Core.List.{List}
 use lib.ListN.{getD}
+use Rattle.pool.specs.Reading.{Entry}
+use Rattle.naming.specs.Naming.{tagOf}
+use Rattle.rules.specs.Table.{entryNamed}
+
+-- the tag of what entry m of the list of the device element at a place names
+abbrev pub entryTag : List ℕ → List Entry → ℕ → ℕ → ℕ
+entryTag p es at m = tagOf p es (entryNamed p es at m)
 
 -- x stands in a list from a place on and before another
 pub record Holds (l : List ℕ) (from to x : ℕ) : Type 0 where

@@ -2,7 +2,7 @@
 use mathlib.Core.Path.{_≡_, _∙_}
 use mathlib.Core.Bool.{not}
 use mathlib.Core.List.{List, [], _++_}
-use Prim.Native.Nat.{ℕ, _+_, _*_, _<_}
+use Prim.Native.Nat.{ℕ, _+_, _<_}
 use native.Mathlib.Numerals.{add-one}
 use native.Mathlib.Omega.{arith}
 use borrow.Author.Tests.{ne-eqb}
@@ -11,14 +11,13 @@ use lib.ListN.{length, getD}
 use Rattle.records.specs.Layout.{layout}
 use Rattle.records.specs.Places.{fieldAt}
 use Rattle.records.specs.declared.Device.{Device}
+use Rattle.records.specs.declared.ProcessData.{ProcessData}
+use Rattle.records.specs.declared.Property.{Property}
 use Rattle.records.specs.declared.ValuePresentation.{ValuePresentation}
 use Rattle.views.specs.Fields.{deviceOf, elementOf, processDataOf, propertyOf, presentationOf}
-use Rattle.pool.specs.Reading.{Entry, width}
+use Rattle.pool.specs.Reading.{Entry}
 use Rattle.naming.specs.Records.{startAt, kindAt}
 use Rattle.naming.specs.Naming.{firstOf}
-use Rattle.naming.specs.Lists.{shown}
-use Rattle.naming.proofs.Shown.{shown-long}
-use Rattle.naming.proofs.Tabled.{starts}
 use Rattle.rules.specs.Table.{repeats, deviceRows, elementRows, dataRows, propertyRows, valueRows, presentedRows, kindRows}
 
 -- a device's labels are not far from its start
@@ -56,23 +55,20 @@ module _ (p : List ℕ) (es : List Entry) (i k : ℕ) where
   as-none a b c d e = rw (ne-eqb k 1 a, ne-eqb k 2 b, ne-eqb k 3 c, ne-eqb k 4 d, ne-eqb k 5 e)
 
 -- a device is not the first
-devices-again : (table : List ℕ) (count device i : ℕ) → device ≡ firstOf (kindAt (shown table count)) 1 count
-    → not (eqb device (i + 1)) ≡ repeats (kindAt (shown table count)) 1 i (length (shown table count))
+devices-again : (es : List Entry) (device i : ℕ) → device ≡ firstOf (kindAt es) 1 (length es) → not (eqb device (i + 1)) ≡ repeats (kindAt es) 1 i (length es)
 unfolding repeats
-devices-again table count device i e = rw (e, shown-long table count, add-one i)
+devices-again es device i e = rw (e, add-one i)
 
-module _ (p table : List ℕ) (count i : ℕ) (h : i < count) where
-  pub device-rows : (k : ℕ) → k ≡ 1 → (d : Device) → d ≡ deviceOf p (getD table (i * width) 0) → (device : ℕ) → device ≡ firstOf (kindAt (shown table count)) 1 count
-      → kindRows p (shown table count) i k ≡ deviceRows p (not (eqb device (i + 1))) d
-  device-rows k e d is device first = as-device p (shown table count) i k e ∙ rw (is, starts table count i h, devices-again table count device i first)
+module _ (p : List ℕ) (es : List Entry) (i at : ℕ) (starts-at : at ≡ startAt es i) where
+  pub device-rows : (k : ℕ) → k ≡ 1 → (d : Device) → d ≡ deviceOf p at → (device : ℕ) → device ≡ firstOf (kindAt es) 1 (length es)
+      → kindRows p es i k ≡ deviceRows p (not (eqb device (i + 1))) d
+  device-rows k e d is device first = as-device p es i k e ∙ rw (is, starts-at, devices-again es device i first)
 
-  pub data-rows : (k : ℕ) → k ≡ 3
-      → kindRows p (shown table count) i k ≡ dataRows p (processDataOf p (getD table (i * width) 0)) ++ presentedRows (shown table count) (processDataOf p (getD table (i * width) 0) .presentation)
-  data-rows k e = as-data p (shown table count) i k e ∙ rw (starts table count i h)
+  pub data-rows : (k : ℕ) → k ≡ 3 → (d : ProcessData) → d ≡ processDataOf p at → kindRows p es i k ≡ dataRows p d ++ presentedRows es (d .presentation)
+  data-rows k e d is = as-data p es i k e ∙ rw (is, starts-at)
 
-  pub property-rows : (k : ℕ) → k ≡ 4
-      → kindRows p (shown table count) i k ≡ propertyRows p (propertyOf p (getD table (i * width) 0)) ++ presentedRows (shown table count) (propertyOf p (getD table (i * width) 0) .presentation)
-  property-rows k e = as-property p (shown table count) i k e ∙ rw (starts table count i h)
+  pub property-rows : (k : ℕ) → k ≡ 4 → (d : Property) → d ≡ propertyOf p at → kindRows p es i k ≡ propertyRows p d ++ presentedRows es (d .presentation)
+  property-rows k e d is = as-property p es i k e ∙ rw (is, starts-at)
 
-  pub value-rows : (k : ℕ) → k ≡ 5 → (v : ValuePresentation) → v ≡ presentationOf p (getD table (i * width) 0) → kindRows p (shown table count) i k ≡ valueRows p v
-  value-rows k e v is = as-value p (shown table count) i k e ∙ rw (is, starts table count i h)
+  pub value-rows : (k : ℕ) → k ≡ 5 → (v : ValuePresentation) → v ≡ presentationOf p at → kindRows p es i k ≡ valueRows p v
+  value-rows k e v is = as-value p es i k e ∙ rw (is, starts-at)

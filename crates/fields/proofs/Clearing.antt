@@ -3,13 +3,13 @@ use mathlib.Core.Path.{_≡_, refl, sym, ap, _∙_}
 use mathlib.Core.Bool.{Bool, true, false, not, _&&_, _||_, true≢false}
 use mathlib.Core.Logic.{⊎-elim}
 use mathlib.Core.List.{List, _++_}
-use Prim.Native.Nat.{ℕ, zero, suc, _+_, _/_, _%_, _<_, _≤_}
+use Prim.Native.Nat.{ℕ, zero, suc, _+_, _<_}
 use native.Mathlib.Decide.{ℕ-discrete}
 use native.Mathlib.Nat.{eq-or-lt-of-le}
 use native.Mathlib.Omega.{arith}
 use borrow.Author.Count.{below-more}
-use borrow.Author.Tests.{eq-eqb, ne-eqb, le-ltb, le-leb}
-use lib.Dec.{eqb}
+use borrow.Author.Tests.{eq-eqb, ne-eqb, not-true}
+use lib.Dec.{eqb, ltb, leb}
 use lib.ListN.{length, getD, set}
 use lib.Seq.{getD-set-same, getD-set-other}
 use Rattle.records.specs.declared.Span.{Span}
@@ -24,7 +24,7 @@ use Rattle.faults.proofs.Clearing.{clear-then}
 use Rattle.pool.specs.Reading.{Entry}
 use Rattle.naming.specs.Records.{startAt}
 use Rattle.naming.specs.Naming.{named, kindOf, parentOf, climb, isData, tagOf, among}
-use Rattle.rules.specs.Table.{unsound, isParent, repeats, doubled, elementKey, entryNamed, fieldRows, referenceRows, listRows, elementRows, dataRows, propertyRows, valueRows}
+use Rattle.rules.specs.Table.{unsound, badScale, badSource, isParent, repeats, doubled, elementKey, entryNamed, fieldRows, referenceRows, listRows, elementRows, dataRows, propertyRows, valueRows}
 use Rattle.rules.proofs.Truth.{untrue, to-left, to-right}
 use Rattle.fields.specs.Clean.{Apart}
 
@@ -38,40 +38,33 @@ pub sound-clear : (p : List ℕ) (s : Span) → soundText (partOf p s) ≡ true 
 unfolding unsound
 sound-clear p s e = rw e
 
-pub data-clear : (p : List ℕ) (d : ProcessData) → d .properties < 6 → d .triggers < 32 → soundText (partOf p (d .designator)) ≡ true → AllClear (dataRows p d)
-data-clear p d few low sound = (
-  λ m l. sound-clear p (d .designator) sound,
-  (
-    λ m l. le-ltb 7 (d .properties) (omega arith),
-    (
-      λ m l. ne-eqb (d .properties / 2 % 4) 3 (λ e. omega (arith, e, few)),
-      (λ m l. le-ltb 31 (d .triggers) (omega arith), tt),
-    ),
-  ),
-)
+-- neither of two tests hits
+pub clear-both : (a b : Bool) → a || b ≡ false → (a ≡ false) × (b ≡ false)
+clear-both true b e = absurd (true≢false e)
+clear-both false b e = (refl, e)
+
+pub data-clear : (p : List ℕ) (d : ProcessData) → not (ltb 7 (d .properties) || badSource (d .properties) || ltb 31 (d .triggers)) ≡ true
+    → soundText (partOf p (d .designator)) ≡ true → AllClear (dataRows p d)
+data-clear p d fit sound =
+    let all = clear-both (ltb 7 (d .properties) || badSource (d .properties)) (ltb 31 (d .triggers)) (not-true _ fit) in
+    let bits = clear-both (ltb 7 (d .properties)) (badSource (d .properties)) (all .0) in
+    (λ m l. sound-clear p (d .designator) sound, (λ m l. bits .0, (λ m l. bits .1, (λ m l. all .1, tt))))
 
 pub property-clear : (p : List ℕ) (d : Property) → soundText (partOf p (d .designator)) ≡ true → AllClear (propertyRows p d)
 property-clear p d sound = (λ m l. sound-clear p (d .designator) sound, tt)
 
-pub value-clear : (p : List ℕ) (v : ValuePresentation) → 0x322BCC77 ≤ v .scale → v .scale ≤ 0x4CBEBC20 → v .decimals < 8 → soundText (partOf p (v .unit)) ≡ true → AllClear (valueRows p v)
-value-clear p v low high few sound = (
-  λ m l. sound-clear p (v .unit) sound,
-  (
-    λ m l. rw (le-ltb (v .scale) 0x322BCC77 low, le-ltb 0x4CBEBC20 (v .scale) high),
-    (λ m l. le-ltb 7 (v .decimals) (omega arith), tt),
-  ),
-)
+pub value-clear : (p : List ℕ) (v : ValuePresentation) → not (badScale (v .scale) || ltb 7 (v .decimals)) ≡ true → soundText (partOf p (v .unit)) ≡ true → AllClear (valueRows p v)
+value-clear p v fit sound =
+    let all = clear-both (badScale (v .scale)) (ltb 7 (v .decimals)) (not-true _ fit) in
+    (λ m l. sound-clear p (v .unit) sound, (λ m l. all .0, (λ m l. all .1, tt)))
 
 -- ---- a device element
 
-pub fields-clear : (p : List ℕ) (e : DeviceElement) → 1 ≤ e .«element_type» → e .«element_type» ≤ 7 → e .number ≤ 4095 → soundText (partOf p (e .designator)) ≡ true → AllClear (fieldRows p e)
-fields-clear p e low high few sound = (
-  λ m l. sound-clear p (e .designator) sound,
-  (
-    λ m l. rw (le-leb 1 (e .«element_type») low, le-leb (e .«element_type») 7 high),
-    (λ m l. le-ltb 4095 (e .number) few, tt),
-  ),
-)
+pub fields-clear : (p : List ℕ) (e : DeviceElement) → not (not (leb 1 (e .«element_type») && leb (e .«element_type») 7) || ltb 4095 (e .number)) ≡ true
+    → soundText (partOf p (e .designator)) ≡ true → AllClear (fieldRows p e)
+fields-clear p e fit sound =
+    let all = clear-both (not (leb 1 (e .«element_type») && leb (e .«element_type») 7)) (ltb 4095 (e .number)) (not-true _ fit) in
+    (λ m l. sound-clear p (e .designator) sound, (λ m l. all .0, (λ m l. all .1, tt)))
 
 -- a number whose record is a parent, or is data, is not 0
 parent-some : (es : List Entry) (r : ℕ) → isParent (kindOf es r) ≡ true → eqb r 0 ≡ false

@@ -8,10 +8,10 @@ use records::Property;
 use records::Span;
 use records::ValuePresentation;
 ghost use mathlib.Core.Path.{_≡_};
-ghost use mathlib.Core.Bool.{not, _&&_};
+ghost use mathlib.Core.Bool.{not, _&&_, _||_};
 ghost use mathlib.Core.List.{[], _∷_};
 ghost use Prim.Native.Nat.{ℕ, _+_, _≤_, _<_, _^_};
-ghost use lib.Dec.{eqb, leb};
+ghost use lib.Dec.{eqb, ltb, leb};
 ghost use lib.ListN.{getD};
 ghost use Rattle.faults.specs.Rows.{many};
 ghost use Rattle.faults.specs.Emission.{Puts};
@@ -93,6 +93,20 @@ fn is_bad_type(t: u8) -> bool
     !((1 <= t) & (t <= 7))
 }
 
+// An element number has twelve bits.
+fn is_bad_number(x: u16) -> bool
+    ensures { λ r. ⌜ r ≡ ltb 4095 x ⌝ }
+{
+    4095 < x
+}
+
+// Whether rule 5 finds nothing in a device element.
+pub fn is_fit_element(e: DeviceElement) -> bool
+    ensures { λ r. ⌜ r ≡ not (not (leb 1 (e .«element_type») && leb (e .«element_type») 7) || ltb 4095 (e .number)) ⌝ }
+{
+    !(is_bad_type(e.element_type) | is_bad_number(e.number))
+}
+
 // Rules 4 and 5 of a device element.
 pub fn put_fields(
     p: &[u8],
@@ -106,7 +120,14 @@ pub fn put_fields(
 {
     let n4 = faults::put_if(is_unsound(p, e.designator), faults, count, number, 4, 1);
     let n5 = faults::put_if(is_bad_type(e.element_type), faults, n4, number, 5, 1);
-    faults::put_if(4095 < e.number, faults, n5, number, 5, 2)
+    faults::put_if(is_bad_number(e.number), faults, n5, number, 5, 2)
+}
+
+// The properties have three bits.
+fn is_bad_properties(x: u8) -> bool
+    ensures { λ r. ⌜ r ≡ ltb 7 x ⌝ }
+{
+    7 < x
 }
 
 // Bits 1 and 2 of the properties: settable and control source.
@@ -116,15 +137,29 @@ fn is_bad_source(properties: u8) -> bool
     properties / 2 % 4 == 3
 }
 
+// The triggers have five bits.
+fn is_bad_triggers(x: u8) -> bool
+    ensures { λ r. ⌜ r ≡ ltb 31 x ⌝ }
+{
+    31 < x
+}
+
+// Whether rule 5 finds nothing in process data.
+pub fn is_fit_data(d: ProcessData) -> bool
+    ensures { λ r. ⌜ r ≡ not (ltb 7 (d .properties) || badSource (d .properties) || ltb 31 (d .triggers)) ⌝ }
+{
+    !((is_bad_properties(d.properties) | is_bad_source(d.properties)) | is_bad_triggers(d.triggers))
+}
+
 // Rules 4 and 5 of process data.
 pub fn put_data(p: &[u8], d: ProcessData, number: u16, faults: &mut [u16], count: usize) -> usize
     requires { ⌜ count < 2 ^ 40 ⌝ }
     ensures { λ r. ⌜ Puts number (dataRows (now (p .entry)) d) (now (faults .entry)) count (now (faults .exit)) r × (r ≤ count + 4) ⌝ }
 {
     let n4 = faults::put_if(is_unsound(p, d.designator), faults, count, number, 4, 1);
-    let n5 = faults::put_if(7 < d.properties, faults, n4, number, 5, 1);
+    let n5 = faults::put_if(is_bad_properties(d.properties), faults, n4, number, 5, 1);
     let n6 = faults::put_if(is_bad_source(d.properties), faults, n5, number, 5, 2);
-    faults::put_if(31 < d.triggers, faults, n6, number, 5, 3)
+    faults::put_if(is_bad_triggers(d.triggers), faults, n6, number, 5, 3)
 }
 
 // Rule 4 of a property.
@@ -142,6 +177,19 @@ fn is_bad_scale(bits: u32) -> bool
     (bits < 0x322BCC77) | (0x4CBEBC20 < bits)
 }
 
+fn is_bad_decimals(x: u8) -> bool
+    ensures { λ r. ⌜ r ≡ ltb 7 x ⌝ }
+{
+    7 < x
+}
+
+// Whether rule 5 finds nothing in a value presentation.
+pub fn is_fit_value(v: ValuePresentation) -> bool
+    ensures { λ r. ⌜ r ≡ not (badScale (v .scale) || ltb 7 (v .decimals)) ⌝ }
+{
+    !(is_bad_scale(v.scale) | is_bad_decimals(v.decimals))
+}
+
 // Rules 4 and 5 of a value presentation.
 pub fn put_value(
     p: &[u8],
@@ -155,7 +203,7 @@ pub fn put_value(
 {
     let n4 = faults::put_if(is_unsound(p, v.unit), faults, count, number, 4, 1);
     let n5 = faults::put_if(is_bad_scale(v.scale), faults, n4, number, 5, 1);
-    faults::put_if(7 < v.decimals, faults, n5, number, 5, 2)
+    faults::put_if(is_bad_decimals(v.decimals), faults, n5, number, 5, 2)
 }
 
 // A presentation: 65535 is none.

@@ -1,7 +1,11 @@
 -- `elements::tag_at` meets its contract. Assumes nothing.
-use mathlib.Core.Path.{refl}
+use mathlib.Core.Path.{sym, ap, _∙_}
+use Prim.Native.Nat.{suc}
 use native.Mathlib.Omega.{arith}
 use borrow.Author.Needs.{needs}
+use Rattle.pool.specs.Walk.{entriesOf}
+use Rattle.naming.specs.Naming.{isData}
+use Rattle.elements.proofs.Tags.{tag-data, tag-other}
 use Rattle.elements.proofs.tag_at.Statement.{statement}
 use Rattle.elements.proofs.tag_at.Tie as tie
 
@@ -21,10 +25,17 @@ add-result : tie.Need-add-result
 add-result c = search needs
 
 returns : tie.Need-returns
-returns c = (rw (← c .before .before .before .kind-at .ensures, ← c .before .before .is-data .ensures, c .before .if1 .taken) (omega (arith, c .ddi-at .ensures)), omega (arith))
+returns c =
+    let a = c .before .before .before .before .before .before .args in
+    let es = entriesOf (a .p .now) (a .starts .now) in
+    let is = tag-data (a .p .now) es (a .number) (ap isData (sym (c .before .before .before .kind-at .ensures)) ∙ sym (c .before .before .is-data .ensures) ∙ c .before .if1 .taken) in
+    (omega (arith, is, c .ddi-at .ensures), omega arith)
 
 returns-2 : tie.Need-returns-2
-returns-2 c = (rw (← c .before .before .kind-at .ensures, ← c .before .is-data .ensures, c .if1 .left), omega arith)
+returns-2 c =
+    let a = c .before .before .before .before .before .args in
+    let es = entriesOf (a .p .now) (a .starts .now) in
+    (sym (tag-other (a .p .now) es (a .number) (ap isData (sym (c .before .before .kind-at .ensures)) ∙ sym (c .before .is-data .ensures) ∙ c .if1 .left)), omega arith)
 
 pub tag-at-spec : {M : Type 1} → statement M
 tag-at-spec =

@@ -17,6 +17,9 @@ is-bad-type-requires c κs = search needs
 put-if-requires-2 : tie.Need-put-if-requires-2
 put-if-requires-2 c κs = search needs
 
+is-bad-number-requires : tie.Need-is-bad-number-requires
+is-bad-number-requires c κs = search needs
+
 put-if-requires-3 : tie.Need-put-if-requires-3
 put-if-requires-3 c κs = search needs
 
@@ -24,7 +27,9 @@ same-length : tie.Need-same-length
 same-length c = search needs
 
 returns : tie.Need-returns
-returns c = rw (← c .before .before .before .before .before .before .before .before .before .before .before .before .before .before .is-unsound .ensures, ← c .before .before .before .before .before .before .before .before .before .is-bad-type .ensures) (puts-then (c .before .before .before .before .before .before .before .before .before .before .before .before .put-if .ensures .0) (puts-then (c .before .before .before .before .before .before .before .put-if2 .ensures .0) (c .before .before .put-if3 .ensures .0)), omega (arith, c .before .before .before .before .before .before .before .before .before .before .before .before .put-if .ensures .1, c .before .before .before .before .before .before .before .put-if2 .ensures .1, c .before .before .put-if3 .ensures .1))
+returns c =
+    rw (← c .before .before .before .before .before .before .before .before .before .before .before .before .before .before .is-unsound .ensures, ← c .before .before .before .before .before .before .before .before .before .is-bad-type .ensures, ← c .before .before .before .before .is-bad-number .ensures)
+    (puts-then (c .before .before .before .before .before .before .before .before .before .before .before .before .put-if .ensures .0) (puts-then (c .before .before .before .before .before .before .before .put-if2 .ensures .0) (c .before .before .put-if3 .ensures .0)), omega (arith, c .before .before .before .before .before .before .before .before .before .before .before .before .put-if .ensures .1, c .before .before .before .before .before .before .before .put-if2 .ensures .1, c .before .before .put-if3 .ensures .1))
 
 pub put-fields-spec : {M : Type 1} → statement M
 put-fields-spec =
@@ -34,6 +39,7 @@ put-fields-spec =
     put-if-requires
     is-bad-type-requires
     put-if-requires-2
+    is-bad-number-requires
     put-if-requires-3
     same-length
     returns)

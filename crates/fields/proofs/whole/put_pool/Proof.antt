@@ -1,7 +1,6 @@
 -- `fields::whole::put_pool` meets its contract. Assumes nothing.
 use native.Mathlib.Omega.{arith}
 use Rattle.faults.proofs.Emission.{puts-then}
-use Rattle.naming.proofs.Shown.{shown-long}
 use borrow.Author.Needs.{needs}
 use Rattle.fields.proofs.whole.put_pool.Statement.{statement}
 use Rattle.fields.proofs.whole.put_pool.Tie as tie
@@ -19,9 +18,14 @@ same-length : tie.Need-same-length
 same-length c = search needs
 
 returns : tie.Need-returns
-returns c = rw (shown-long (c .before .before .before .before .before .before .before .before .before .before .before .before .args .table .now) (c .before .before .before .before .before .before .before .before .before .before .before .before .args .count), ← c .before .before .before .before .before .before .before .before .before .before .before .before .pre .2, ← c .before .before .before .before .lacks-machine .ensures) (puts-then (c .before .before .before .before .before .before .before .put-if .ensures .0) (c .before .before .put-if2 .ensures .0), omega (arith, c .before .before .before .before .before .before .before .put-if .ensures .1, c .before .before .put-if2 .ensures .1))
+returns c = rw (← c .before .before .before .before .before .before .before .before .before .before .before .before .pre .1, ← c .before .before .before .before .lacks-machine .ensures) (puts-then (c .before .before .before .before .before .before .before .put-if .ensures .0) (c .before .before .put-if2 .ensures .0), omega (arith, c .before .before .before .before .before .before .before .put-if .ensures .1, c .before .before .put-if2 .ensures .1))
 
 pub put-pool-spec : {M : Type 1} → statement M
 put-pool-spec =
     tie.close
-    (tie.spec put-if-requires lacks-machine-requires put-if-requires-2 same-length returns)
+    (tie.spec
+    put-if-requires
+    lacks-machine-requires
+    put-if-requires-2
+    same-length
+    returns)

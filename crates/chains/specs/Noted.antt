@@ -1,0 +1,17 @@
+-- Marks under the keys of records and under records, for functions inside. Definitions only.
+use Prim.Native.Nat.{ℕ, suc, _*_, _<_}
+use mathlib.Core.Path.{_≡_}
+use mathlib.Core.Bool.{Bool, not, _&&_}
+use mathlib.Core.List.{List}
+use lib.Dec.{eqb, ltb}
+use lib.ListN.{length}
+use Rattle.marks.specs.Bits.{bitAt}
+use Rattle.naming.specs.Naming.{firstOf}
+
+-- a number x below the bound is marked exactly if one of the first n records has the key x + 1
+abbrev pub Noted : ℕ → (ℕ → ℕ) → ℕ → List ℕ → Type 0
+Noted bound key n numbers = (x : ℕ) → x < bound → bitAt numbers x ≡ not (eqb (firstOf key (suc x) n) 0)
+
+-- of the numbers in a list of marks those below n are marked that a test hits, and no other
+abbrev pub Marked : (ℕ → Bool) → ℕ → List ℕ → Type 0
+Marked test n marks = (j : ℕ) → j < 8 * length marks → bitAt marks j ≡ (ltb j n && test j)

@@ -1,0 +1,194 @@
+// Rule 12: a list of entries names no DDI twice. A walk over the entries has a walk over the earlier ones inside, one at a time, which
+// is left at the first match.
+ghost use mathlib.Core.Path.{_≡_};
+ghost use mathlib.Core.Bool.{false};
+ghost use mathlib.Core.List.{[], _∷_};
+ghost use Prim.Native.Nat.{ℕ, _+_, _≤_, _<_, _^_};
+ghost use lib.ListN.{length};
+ghost use Rattle.pool.specs.Walk.{entriesOf};
+ghost use Rattle.faults.specs.Rows.{many};
+ghost use Rattle.faults.specs.Emission.{Puts};
+ghost use Rattle.naming.specs.Lists.{Blank};
+ghost use Rattle.naming.specs.Chained.{Names};
+ghost use Rattle.rules.specs.Table.{doubled};
+ghost use Rattle.elements.specs.Lists.{entryTag};
+
+// A short list: each entry against all earlier ones that name process data or a property, by their DDIs. A DDI is kept once.
+fn walk_seen(
+    p: &[u8],
+    starts: &[u16],
+    heads: &[u16],
+    next: &[u16],
+    at: u16,
+    seen: &mut [u16],
+    size: usize,
+    number: u16,
+    faults: &mut [u16],
+    count: usize,
+) -> usize
+    requires { ⌜ Names (now p) (now starts) (now heads) (now next) × (size ≤ length (now seen)) × (size ≤ 32768) × (count < 2 ^ 41) ⌝ }
+    ensures { λ r. ⌜ Puts number (many 12 2 size (doubled (entryTag (now (p .entry)) (entriesOf (now (p .entry)) (now (starts .entry))) at)) ∷ []) (now (faults .entry)) count (now (faults .exit)) r × (r ≤ count + size) ⌝ }
+{
+    let from = views::entries_from(p, at);
+    let mut n = count;
+    let mut kept: usize = 0;
+    let mut m: usize = 0;
+    'entries: while m < size {
+        let named = naming::named_at(p, starts, heads, next, wire::read_u16(p, from + 2 * m));
+        let tag = super::tag_at(p, starts, named);
+        m += 1;
+        if tag == 0 {
+            continue 'entries;
+        }
+        let ddi = (tag - 1) as u16;
+        let mut k: usize = 0;
+        while k < kept {
+            if seen[k] == ddi {
+                n = faults::put_if(true, faults, n, number, 12, (1 + m) as u16);
+                continue 'entries;
+            }
+            k += 1;
+        }
+        seen[kept] = ddi;
+        kept += 1;
+    }
+    n
+}
+
+fn put_short(
+    p: &[u8],
+    starts: &[u16],
+    heads: &[u16],
+    next: &[u16],
+    at: u16,
+    size: usize,
+    number: u16,
+    faults: &mut [u16],
+    count: usize,
+) -> usize
+    requires { ⌜ Names (now p) (now starts) (now heads) (now next) × (size ≤ 64) × (count < 2 ^ 41) ⌝ }
+    ensures { λ r. ⌜ Puts number (many 12 2 size (doubled (entryTag (now (p .entry)) (entriesOf (now (p .entry)) (now (starts .entry))) at)) ∷ []) (now (faults .entry)) count (now (faults .exit)) r × (r ≤ count + size) ⌝ }
+{
+    let mut seen = [0u16; 64];
+    walk_seen(
+        p,
+        starts,
+        heads,
+        next,
+        at,
+        &mut seen,
+        size,
+        number,
+        faults,
+        count,
+    )
+}
+
+// What a walk along links has found: the count of faults, and how many entries name process data or a property.
+pub struct Walked {
+    pub n: usize,
+    pub tagged: usize,
+}
+
+// A long list: each entry against the earlier ones whose DDI has the same remainder. `tops` and `links` are numbers of records, and a
+// link stands under the number of its record: it leads to one that an earlier entry names, whatever its number. A DDI is linked once.
+fn walk_links(
+    p: &[u8],
+    starts: &[u16],
+    heads: &[u16],
+    next: &[u16],
+    at: u16,
+    tops: &mut [u16],
+    links: &mut [u16],
+    size: usize,
+    number: u16,
+    faults: &mut [u16],
+    count: usize,
+) -> Walked
+    requires { ⌜ Names (now p) (now starts) (now heads) (now next) × (length (now tops) ≡ 1021) × Blank (now tops) × (length (now starts) ≤ length (now links)) × (size ≤ 32768) × (count < 2 ^ 41) ⌝ }
+    ensures { λ r. ⌜ Puts number (many 12 2 size (doubled (entryTag (now (p .entry)) (entriesOf (now (p .entry)) (now (starts .entry))) at)) ∷ []) (now (faults .entry)) count (now (faults .exit)) (r .n) × (r .n ≤ count + size) × (r .tagged ≡ size → (m : ℕ) → m < size → entryTag (now (p .entry)) (entriesOf (now (p .entry)) (now (starts .entry))) at m ≡ 0 → ⊥) ⌝ }
+{
+    let from = views::entries_from(p, at);
+    let mut n = count;
+    let mut tagged: usize = 0;
+    let mut m: usize = 0;
+    'entries: while m < size {
+        let named = naming::named_at(p, starts, heads, next, wire::read_u16(p, from + 2 * m));
+        let tag = super::tag_at(p, starts, named);
+        m += 1;
+        if tag == 0 {
+            continue 'entries;
+        }
+        tagged += 1;
+        let b = tag % 1021;
+        let mut k = tops[b];
+        while k != 0 {
+            if super::ddi_at(p, starts, k) as usize + 1 == tag {
+                n = faults::put_if(true, faults, n, number, 12, (1 + m) as u16);
+                continue 'entries;
+            }
+            k = links[k as usize];
+        }
+        links[named as usize] = tops[b];
+        tops[b] = named;
+    }
+    Walked { n, tagged }
+}
+
+// The same with lists of its own, which are on the stack of long lists alone.
+fn walk_long(
+    p: &[u8],
+    starts: &[u16],
+    heads: &[u16],
+    next: &[u16],
+    at: u16,
+    size: usize,
+    number: u16,
+    faults: &mut [u16],
+    count: usize,
+) -> Walked
+    requires { ⌜ Names (now p) (now starts) (now heads) (now next) × (size ≤ 32768) × (count < 2 ^ 41) ⌝ }
+    ensures { λ r. ⌜ Puts number (many 12 2 size (doubled (entryTag (now (p .entry)) (entriesOf (now (p .entry)) (now (starts .entry))) at)) ∷ []) (now (faults .entry)) count (now (faults .exit)) (r .n) × (r .n ≤ count + size) × (r .tagged ≡ size → (m : ℕ) → m < size → entryTag (now (p .entry)) (entriesOf (now (p .entry)) (now (starts .entry))) at m ≡ 0 → ⊥) ⌝ }
+{
+    let mut tops = [0u16; 1021];
+    let mut links = [0u16; 5462];
+    walk_links(
+        p,
+        starts,
+        heads,
+        next,
+        at,
+        &mut tops,
+        &mut links,
+        size,
+        number,
+        faults,
+        count,
+    )
+}
+
+// Rule 12 of the entries, unless fewer than two of them name process data or a property.
+pub fn put_doubled(
+    tagged: usize,
+    p: &[u8],
+    starts: &[u16],
+    heads: &[u16],
+    next: &[u16],
+    at: u16,
+    size: usize,
+    number: u16,
+    faults: &mut [u16],
+    count: usize,
+) -> usize
+    requires { ⌜ (tagged < 2 → (m : ℕ) → m < size → doubled (entryTag (now p) (entriesOf (now p) (now starts)) at) m ≡ false) × Names (now p) (now starts) (now heads) (now next) × (size ≤ 32768) × (count < 2 ^ 41) ⌝ }
+    ensures { λ r. ⌜ Puts number (many 12 2 size (doubled (entryTag (now (p .entry)) (entriesOf (now (p .entry)) (now (starts .entry))) at)) ∷ []) (now (faults .entry)) count (now (faults .exit)) r × (r ≤ count + size) ⌝ }
+{
+    if tagged < 2 {
+        return count;
+    }
+    if size <= 64 {
+        return put_short(p, starts, heads, next, at, size, number, faults, count);
+    }
+    let walked = walk_long(p, starts, heads, next, at, size, number, faults, count);
+    walked.n
+}
