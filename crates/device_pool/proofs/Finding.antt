@@ -1,5 +1,5 @@
 -- `find_text`, at a list of either length. Assumes nothing.
-use Rattle.working_table.proofs.Over.{_≡_, refl, sym, subst, List, [], _∷_, ℕ, length, replicate, URA, fullShare, Name, Fn, SProp, emp, Model, Routines, Heap, Closed, factI, GhostRules, Running, givenOf, tables, tripleOf, Contract, Triple, cited, Line, Carried, struct-of, list-typed, made, R, Size, pTy, tTy, fill-lines, Over, fills-over, w16, tyInt, vint, Slot, plain, u16, uint-tells, uint-lawful, yes, has}
+use Rattle.working_table.proofs.Over.{_≡_, refl, sym, subst, List, [], _∷_, ℕ, length, replicate, URA, fullShare, Name, Fn, SProp, emp, Model, Routines, Heap, Closed, factI, GhostRules, Running, givenOf, tables, tripleOf, Contract, Triple, cited, Line, Carried, struct-of, list-typed, made, R, Size, pTy, tTy, fill-lines, Rest, Over, fills-over, w16, tyInt, vint, plain, u16, uint-tells, uint-lawful, yes, has}
 use Rattle.working_table.proofs.gather.Symbol as gather-def
 use Rattle.pool.specs.Walk.{Listed}
 use Rattle.checker.specs.Checking.{countOf}
@@ -26,8 +26,8 @@ text = fill-lines 3 0 [] (3 ∷ []) core-def.name count-def.name answer-def.name
 abbrev finding : ℕ → Fn
 finding N = made R 2 3 P′.mir (pTy ∷ tTy ∷ tyInt w16 ∷ []) S′.mir [] N (text N)
 
-abbrev pub rest : List (Slot 2)
-rest = plain (λ _. u16) ∷ []
+abbrev pub id : Rest 0
+id = record { slots = plain (λ _. u16) ∷ []; kept = (yes, tt); holds = λ κs. (λ n. has (vint w16 n), tt); tells = λ κs. (uint-tells w16, tt) }
 
 module _ {M : Type 1} (𝓤 : URA M) (H : Heap 𝓤) (𝓜 : Model 𝓤 H) (𝓖 : GhostRules 𝓤 H) (𝓡 : Running 𝓤 H 𝓜) where
   abbrev pub found : Carried 𝓤 H (𝓖 .A)
@@ -37,15 +37,15 @@ module _ {M : Type 1} (𝓤 : URA M) (H : Heap 𝓤) (𝓜 : Model 𝓤 H) (𝓖
   place = struct-of 𝓤 H (𝓖 .A) (givenOf 𝓤 H 𝓜 𝓖) P.the-type P′.the-laws P′.the-plain
 
   abbrev pub Finding : (List ℕ → SProp 𝓤) → Contract 𝓤
-  Finding = Over 𝓤 H 𝓜 𝓖 𝓡 found place 0 rest (yes, tt) (λ κs. (λ n. has (vint w16 n), tt)) (λ κs a. find-text.clauses 𝓤 H (𝓖 .A) (𝓜 .mem) (𝓡 .run) κs a .ensures tt)
+  Finding = Over 𝓤 H 𝓜 𝓖 𝓡 found place 0 id (λ κs a. find-text.clauses 𝓤 H (𝓖 .A) (𝓜 .mem) (𝓡 .run) κs a .ensures tt)
 
   pub finding-spec : (s : Size 𝓤) (env : Routines) (name : Name) → Closed 𝓤 H (tables 𝓤 H 𝓜 𝓡 env .C) (tables 𝓤 H 𝓜 𝓡 env .Λ) name (finding (s .numbers))
       → env core-def.name ≡ core-def.routine → env count-def.name ≡ count-def.routine → env gather-def.name ≡ gather-def.routine → env answer-def.name ≡ answer-def.routine → Triple 𝓤 (tables 𝓤 H 𝓜 𝓡 env .C name) (Finding (s .asks))
   finding-spec s env name closed calls-core calls-count calls-gather calls-answer =
       let A = 𝓖 .A in
       let known-core = cited 𝓤 H (tripleOf 𝓤 H A core.signature (core.spec 𝓤 H A (𝓜 .mem) (𝓡 .run))) 𝓜 𝓡 env core-def.name core-def.routine calls-core (core-thm.met 𝓤 H 𝓜 𝓖 𝓡) in
-      fills-over 𝓤 H 𝓜 𝓖 𝓡 found place 0 rest (yes, tt) (λ κs. (λ n. has (vint w16 n), tt)) (λ κs a. find-text.clauses 𝓤 H A (𝓜 .mem) (𝓡 .run) κs a .ensures tt) env name (finding (s .numbers)) closed (λ κs. (uint-tells w16, tt))
-      (λ κs p room id d zs out. Finds p room (id .0) (d .place) × (d .records ≡ countOf p room) × Listed p room zs) (λ d. d .records) (λ d r. r ≡ d .place) s core-def.name count-def.name answer-def.name (text (s .numbers)) refl
+      fills-over 𝓤 H 𝓜 𝓖 𝓡 found place 0 id (λ κs a. find-text.clauses 𝓤 H A (𝓜 .mem) (𝓡 .run) κs a .ensures tt) env name (finding (s .numbers)) closed
+      (λ κs p room c d zs out. Finds p room (c .0) (d .place) × (d .records ≡ countOf p room) × Listed p room zs) (λ d. d .records) (λ d r. r ≡ d .place) s core-def.name count-def.name answer-def.name (text (s .numbers)) refl
       (λ κs qs a are l₀ l₁ l₂ l₃ l₄ l₅ l₆ l₇ l₈ l₉ l₁₀ l₁₁ l₁₂ l₁₃. (
         ((tt, (tt, (tt, (record { fits = are .0 .0 .1 .0 }, tt)))), ((tt, (tt, (tt, (record { fits = are .1 .0 .0 .1 .0 }, tt)))), ((tt, uint-lawful 𝓤 H A (givenOf 𝓤 H 𝓜 𝓖) w16 .typed (a .1 .1 .0) _ (are .1 .1 .0) .0), tt))),
         (tt, tt, list-typed 𝓤 H A (givenOf 𝓤 H 𝓜 𝓖) (s .numbers), (refl, refl, tt, tt, (s .fits, tt, tt, refl, tt, tt, (tt, (_, tt, λ r. (s .fits, tt, tt, refl, tt, tt, (_, tt, λ r₁. (refl, refl, tt, tt, refl, refl, tt, tt, (_, tt, λ r₂ v. (_, tt, λ r₃. (tt, _))))))))))),
