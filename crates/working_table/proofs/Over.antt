@@ -78,12 +78,23 @@ lends-table d e = lends-on d e 2 (named 1) mut (pointee (R .written)) R′.mir
 abbrev pub fill-lines : ℕ → ℕ → List Line → List ℕ → Name → Name → Name → ℕ → List Line
 fill-lines k j after rest #core #count #answer = lines R R′.mir k 2 1 0 j [] after (1 ∷ []) rest (1 ∷ []) #core #count gather-def.name #answer
 
-module _ {M : Type 1} (𝓤 : URA M) (H : Heap 𝓤) (𝓜 : Model 𝓤 H) (𝓖 : GhostRules 𝓤 H) (𝓡 : Running 𝓤 H 𝓜) (D T : Carried 𝓤 H (𝓖 .A)) (m : ℕ) (ss : List (Slot (suc (suc m)))) (ks : Kepts ss) (cs : (κs : Lfts (suc (suc m))) → Holds (typesAt ss κs))
-    (Says : (κs : Lfts (suc (suc m))) → Args (passing (suc (suc m)) (over R m ss) (T .row)) κs → T .row .Denot → AtExit (record { signature = passing (suc (suc m)) (over R m ss) (T .row); kept = (yes, (yes, ks)) }) κs → SProp 𝓤) where
-  abbrev pub Over : (List ℕ → SProp 𝓤) → Contract 𝓤
-  Over of-pool = Asked 𝓤 H (𝓖 .A) T (suc (suc m)) (over R m ss) (yes, (yes, ks)) Says (λ κs a. of-pool (a .0 .now))
+-- the parameters behind the table, with m lifetimes of their own: their slots, what a local holds of each, and that what each owns tells
+-- that
+pub record Rest (m : ℕ) : Type 2 where
+  pub slots : List (Slot (suc (suc m)))
+  pub kept : Kepts slots
+  pub holds : (κs : Lfts (suc (suc m))) → Holds (typesAt slots κs)
+  pub tells : (κs : Lfts (suc (suc m))) → Tellss (typesAt slots κs) (Ises (typesAt slots κs)) (spells (typesAt slots κs) (holds κs))
 
-  module _ (env : Routines) (name : Name) (f : Fn) (closed : Closed 𝓤 H (tables 𝓤 H 𝓜 𝓡 env .C) (tables 𝓤 H 𝓜 𝓡 env .Λ) name f) (tells : (κs : Lfts (suc (suc m))) → Tellss (typesAt ss κs) (Ises (typesAt ss κs)) (spells (typesAt ss κs) (cs κs))) where
+abbrev pub nothing-else : Rest 0
+nothing-else = record { slots = []; kept = tt; holds = λ κs. tt; tells = λ κs. tt }
+
+module _ {M : Type 1} (𝓤 : URA M) (H : Heap 𝓤) (𝓜 : Model 𝓤 H) (𝓖 : GhostRules 𝓤 H) (𝓡 : Running 𝓤 H 𝓜) (D T : Carried 𝓤 H (𝓖 .A)) (m : ℕ) (X : Rest m)
+    (Says : (κs : Lfts (suc (suc m))) → Args (passing (suc (suc m)) (over R m (X .slots)) (T .row)) κs → T .row .Denot → AtExit (record { signature = passing (suc (suc m)) (over R m (X .slots)) (T .row); kept = (yes, (yes, X .kept)) }) κs → SProp 𝓤) where
+  abbrev pub Over : (List ℕ → SProp 𝓤) → Contract 𝓤
+  Over of-pool = Asked 𝓤 H (𝓖 .A) T (suc (suc m)) (over R m (X .slots)) (yes, (yes, X .kept)) Says (λ κs a. of-pool (a .0 .now))
+
+  module _ (env : Routines) (name : Name) (f : Fn) (closed : Closed 𝓤 H (tables 𝓤 H 𝓜 𝓡 env .C) (tables 𝓤 H 𝓜 𝓡 env .Λ) name f) where
     abbrev C : Calls 𝓤 H
     C = tables 𝓤 H 𝓜 𝓡 env .C
 
@@ -97,21 +108,21 @@ module _ {M : Type 1} (𝓤 : URA M) (H : Heap 𝓤) (𝓜 : Model 𝓤 H) (𝓖
     unfolding tablesOf
     fm = fmOf 𝓤 H (W .laws) (tablesOf 𝓤 H 𝓜 (tables 𝓤 H 𝓜 𝓡 env))
 
-    pub fills-over : (Tells : (κs : Lfts (suc (suc m))) → List ℕ → ℕ → Denots (typesAt ss κs) → D .row .Denot → List ℕ → Outs κs ss ks → Type 0) (countOf : D .row .Denot → ℕ) (answers : D .row .Denot → T .row .Denot → Type 0) (s : Size 𝓤) (#core #count #answer : Name) (ls : List Line) → f .body ≡ code ls
-        → Coded-so 𝓤 H (𝓖 .A) R D T m ss ks (s .asks) Says Reaches Tells countOf answers gathered W C Λ fm (s .numbers) cs f #core #count gather-def.name #answer ls
-        → Core-so 𝓤 H (𝓖 .A) R D T m ss ks (s .asks) Says Reaches Tells countOf answers gathered W C Λ fm (s .numbers) cs #core
+    pub fills-over : (Tells : (κs : Lfts (suc (suc m))) → List ℕ → ℕ → Denots (typesAt (X .slots) κs) → D .row .Denot → List ℕ → Outs κs (X .slots) (X .kept) → Type 0) (countOf : D .row .Denot → ℕ) (answers : D .row .Denot → T .row .Denot → Type 0) (s : Size 𝓤) (#core #count #answer : Name) (ls : List Line) → f .body ≡ code ls
+        → Coded-so 𝓤 H (𝓖 .A) R D T m (X .slots) (X .kept) (s .asks) Says Reaches Tells countOf answers gathered W C Λ fm (s .numbers) (X .holds) f #core #count gather-def.name #answer ls
+        → Core-so 𝓤 H (𝓖 .A) R D T m (X .slots) (X .kept) (s .asks) Says Reaches Tells countOf answers gathered W C Λ fm (s .numbers) (X .holds) #core
         → Triple 𝓤 (C #count) (Unary 𝓤 H (𝓖 .A) (D .row) usize (λ d n. n ≡ countOf d)) → Triple 𝓤 (C #answer) (Unary 𝓤 H (𝓖 .A) (D .row) (T .row) answers) → env gather-def.name ≡ gather-def.routine
-        → Right 𝓤 H (𝓖 .A) R D T m ss ks (s .asks) Says Reaches Tells countOf answers gathered → Triple 𝓤 (C name) (Over (s .asks))
+        → Right 𝓤 H (𝓖 .A) R D T m (X .slots) (X .kept) (s .asks) Says Reaches Tells countOf answers gathered → Triple 𝓤 (C name) (Over (s .asks))
     fills-over Tells countOf answers s #core #count #answer ls same coded core count answer calls-gather right =
         entered 𝓤 H (Over (s .asks)) C Λ name f closed
-        (fills-first 𝓤 H (𝓖 .A) R D T m ss ks (s .asks) Says Reaches Tells countOf answers gathered W C Λ fm (s .numbers) cs f #core #count gather-def.name #answer ls same coded (s .room) tells (s .reaches) core count answer
+        (fills-first 𝓤 H (𝓖 .A) R D T m (X .slots) (X .kept) (s .asks) Says Reaches Tells countOf answers gathered W C Λ fm (s .numbers) (X .holds) f #core #count gather-def.name #answer ls same coded (s .room) (X .tells) (s .reaches) core count answer
         (cited 𝓤 H (tripleOf 𝓤 H (𝓖 .A) gather.signature (gather.spec 𝓤 H (𝓖 .A) (𝓜 .mem) (𝓡 .run))) 𝓜 𝓡 env gather-def.name gather-def.routine calls-gather (gather-thm.met 𝓤 H 𝓜 𝓖 𝓡)) right)
 
     pub picks-over : (k : ℕ) (#short #long : Name) (ls₁ ls₂ : List Line) → f .body ≡ choice (suc k) (suc (suc k)) 1 12288 ls₁ ls₂
-        → ((κs : Lfts (suc (suc m))) (qs : Shares (suc (suc m))) (a : Args (passing (suc (suc m)) (over R m ss) (T .row)) κs) → Are (typesAt (over R m ss) κs) (Ises (typesAt (over R m ss) κs)) a (valss (typesAt (over R m ss) κs) (spells (typesAt (over R m ss) κs) (slice-cell, (slice-cell, cs κs))) a)
-        → Hands-on 𝓤 H (𝓖 .A) T (suc (suc m)) (over R m ss) (yes, (yes, ks)) Says W C Λ fm (λ κs. (slice-cell, (slice-cell, cs κs))) κs qs a f #short #long 12288 (suc k) (suc (suc k)) 1 (named 0) imm (tyInt w8) ls₁ ls₂ (a .0 .ptr .0) (a .0 .ptr .1) (length (a .0 .now)))
+        → ((κs : Lfts (suc (suc m))) (qs : Shares (suc (suc m))) (a : Args (passing (suc (suc m)) (over R m (X .slots)) (T .row)) κs) → Are (typesAt (over R m (X .slots)) κs) (Ises (typesAt (over R m (X .slots)) κs)) a (valss (typesAt (over R m (X .slots)) κs) (spells (typesAt (over R m (X .slots)) κs) (slice-cell, (slice-cell, X .holds κs))) a)
+        → Hands-on 𝓤 H (𝓖 .A) T (suc (suc m)) (over R m (X .slots)) (yes, (yes, X .kept)) Says W C Λ fm (λ κs. (slice-cell, (slice-cell, X .holds κs))) κs qs a f #short #long 12288 (suc k) (suc (suc k)) 1 (named 0) imm (tyInt w8) ls₁ ls₂ (a .0 .ptr .0) (a .0 .ptr .1) (length (a .0 .now)))
         → Triple 𝓤 (C #short) (Over (short 𝓤 .asks)) → Triple 𝓤 (C #long) (Over (long 𝓤 .asks)) → Triple 𝓤 (C name) (Over (long 𝓤 .asks))
     picks-over k #short #long ls₁ ls₂ same coded known-short known-long =
         entered 𝓤 H (Over (long 𝓤 .asks)) C Λ name f closed
-        (picks 𝓤 H (𝓖 .A) T (suc (suc m)) (over R m ss) (yes, (yes, ks)) Says W C Λ fm (λ κs. (slice-cell, (slice-cell, cs κs))) f #short #long 12288 (suc k) (suc (suc k)) 1 (named 0) imm (tyInt w8) ls₁ ls₂ (λ κs a. (a .0 .ptr .0, a .0 .ptr .1, length (a .0 .now)))
-        same (record { fits = lit< tt }) (λ κs. (shr-slice-tells (named 0) (κs .0) u8, (mut-slice-tells (named 1) (κs .1 .0) R, tells κs))) coded known-short known-long)
+        (picks 𝓤 H (𝓖 .A) T (suc (suc m)) (over R m (X .slots)) (yes, (yes, X .kept)) Says W C Λ fm (λ κs. (slice-cell, (slice-cell, X .holds κs))) f #short #long 12288 (suc k) (suc (suc k)) 1 (named 0) imm (tyInt w8) ls₁ ls₂ (λ κs a. (a .0 .ptr .0, a .0 .ptr .1, length (a .0 .now)))
+        same (record { fits = lit< tt }) (λ κs. (shr-slice-tells (named 0) (κs .0) u8, (mut-slice-tells (named 1) (κs .1 .0) R, X .tells κs))) coded known-short known-long)

@@ -1,5 +1,5 @@
 -- `read`, at a list of either length. Assumes nothing.
-use Rattle.working_table.proofs.Over.{_≡_, refl, sym, subst, List, [], _∷_, ℕ, length, replicate, URA, fullShare, Name, Fn, SProp, emp, Model, Memory, Routine, Fun, Routines, Heap, Closed, Atoms, factI, GhostRules, Running, givenOf, tables, Given, tripleOf, Contract, Triple, cited, Line, Carried, enum-of, list-typed, made, R, Size, pTy, tTy, fill-lines, Over, fills-over}
+use Rattle.working_table.proofs.Over.{_≡_, refl, sym, subst, List, [], _∷_, ℕ, length, replicate, URA, fullShare, Name, Fn, SProp, emp, Model, Memory, Routine, Fun, Routines, Heap, Closed, Atoms, factI, GhostRules, Running, givenOf, tables, Given, tripleOf, Contract, Triple, cited, Line, Carried, enum-of, list-typed, made, R, Size, pTy, tTy, fill-lines, nothing-else, Over, fills-over}
 use Rattle.pool.specs.Answer.{answerOf, recordsIn}
 use Rattle.pool.specs.Reading.{readOf}
 use Rattle.pool.specs.Walk.{Listed}
@@ -29,14 +29,14 @@ module _ {M : Type 1} (𝓤 : URA M) (H : Heap 𝓤) (𝓜 : Model 𝓤 H) (𝓖
   outcome = enum-of 𝓤 H (𝓖 .A) (givenOf 𝓤 H 𝓜 𝓖) O.the-type O′.the-laws O′.the-plain tt
 
   abbrev pub Reading : (List ℕ → SProp 𝓤) → Contract 𝓤
-  Reading = Over 𝓤 H 𝓜 𝓖 𝓡 outcome outcome 0 [] tt (λ κs. tt) (λ κs a. read.clauses 𝓤 H (𝓖 .A) (𝓜 .mem) (𝓡 .run) κs a .ensures tt)
+  Reading = Over 𝓤 H 𝓜 𝓖 𝓡 outcome outcome 0 nothing-else (λ κs a. read.clauses 𝓤 H (𝓖 .A) (𝓜 .mem) (𝓡 .run) κs a .ensures tt)
 
   pub reading-spec : (s : Size 𝓤) (env : Routines) (name : Name) → Closed 𝓤 H (tables 𝓤 H 𝓜 𝓡 env .C) (tables 𝓤 H 𝓜 𝓡 env .Λ) name (reading (s .numbers))
       → env core-def.name ≡ core-def.routine → env count-def.name ≡ count-def.routine → env gather-def.name ≡ gather-def.routine → env answer-def.name ≡ answer-def.routine → Triple 𝓤 (tables 𝓤 H 𝓜 𝓡 env .C name) (Reading (s .asks))
   reading-spec s env name closed calls-core calls-count calls-gather calls-answer =
       let A = 𝓖 .A in
       let known-core = cited 𝓤 H (tripleOf 𝓤 H A core.signature (core.spec 𝓤 H A (𝓜 .mem) (𝓡 .run))) 𝓜 𝓡 env core-def.name core-def.routine calls-core (core-thm.met 𝓤 H 𝓜 𝓖 𝓡) in
-      fills-over 𝓤 H 𝓜 𝓖 𝓡 outcome outcome 0 [] tt (λ κs. tt) (λ κs a. read.clauses 𝓤 H A (𝓜 .mem) (𝓡 .run) κs a .ensures tt) env name (reading (s .numbers)) closed (λ κs. tt)
+      fills-over 𝓤 H 𝓜 𝓖 𝓡 outcome outcome 0 nothing-else (λ κs a. read.clauses 𝓤 H A (𝓜 .mem) (𝓡 .run) κs a .ensures tt) env name (reading (s .numbers)) closed
       (λ κs p room rest d zs out. (answerOf d ≡ readOf p room) × Listed p room zs) recordsIn (λ d r. r ≡ d) s core-def.name count-def.name answer-def.name (text (s .numbers)) refl
       (λ κs qs a are l₀ l₁ l₂ l₃ l₄ l₅ l₆ l₇ l₈ l₉ l₁₀ l₁₁ l₁₂. (
         ((tt, (tt, (tt, (record { fits = are .0 .0 .1 .0 }, tt)))), ((tt, (tt, (tt, (record { fits = are .1 .0 .0 .1 .0 }, tt)))), tt)),

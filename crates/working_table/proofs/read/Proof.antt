@@ -1,5 +1,5 @@
 -- `working_table::read` meets its contract: the pool's length picks one of two functions that have it (`Reading.antt`). Assumes nothing.
-use Rattle.working_table.proofs.Over.{refl, [], _∷_, cited, asks, short, long, lends-table, picks-over}
+use Rattle.working_table.proofs.Over.{refl, [], _∷_, cited, asks, short, long, lends-table, nothing-else, picks-over}
 use Rattle.working_table.proofs.Reading.{outcome, Reading}
 use Rattle.working_table.proofs.read_short.Symbol as short-def
 use Rattle.working_table.proofs.read_short.Met as short-thm
@@ -13,7 +13,7 @@ use Rattle.working_table.proofs.read.Code as code
 pub read-spec : {M : Type 1} → stated.statement M
 unfolding code.routine
 read-spec 𝓤 H 𝓜 𝓖 𝓡 =
-    picks-over 𝓤 H 𝓜 𝓖 𝓡 (outcome 𝓤 H 𝓜 𝓖 𝓡) (outcome 𝓤 H 𝓜 𝓖 𝓡) 0 [] tt (λ κs. tt) (λ κs a. read.clauses 𝓤 H (𝓖 .A) (𝓜 .mem) (𝓡 .run) κs a .ensures tt) code.env name code.function (code.unfolded 𝓤 H 𝓜 𝓡) (λ κs. tt)
+    picks-over 𝓤 H 𝓜 𝓖 𝓡 (outcome 𝓤 H 𝓜 𝓖 𝓡) (outcome 𝓤 H 𝓜 𝓖 𝓡) 0 nothing-else (λ κs a. read.clauses 𝓤 H (𝓖 .A) (𝓜 .mem) (𝓡 .run) κs a .ensures tt) code.env name code.function (code.unfolded 𝓤 H 𝓜 𝓡)
     2 short-def.name long-def.name (lends-table 5 6 ∷ asks short-def.name (1 ∷ 6 ∷ []) 0 ∷ []) (lends-table 7 8 ∷ asks long-def.name (1 ∷ 8 ∷ []) 0 ∷ []) refl
     (λ κs qs a are l₀ l₁ l₂ l₃ l₄ l₅ l₆ l₇ l₈. (
       ((tt, (tt, (tt, (record { fits = are .0 .0 .1 .0 }, tt)))), ((tt, (tt, (tt, (record { fits = are .1 .0 .0 .1 .0 }, tt)))), tt)),

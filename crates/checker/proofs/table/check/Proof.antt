@@ -1,6 +1,6 @@
 -- `checker::table::check` meets its contract: the pool's length picks one of two functions that have it (`Sizes.antt`). Assumes nothing.
-use Rattle.working_table.proofs.Over.{refl, [], _∷_, cited, named, u16, mut-slice-tells, yes, slice-cell, asks, short, long, lends-table, picks-over}
-use Rattle.checker.proofs.Sizes.{lends-faults, rest, verdict, Checking}
+use Rattle.working_table.proofs.Over.{refl, [], _∷_, cited, asks, short, long, lends-table, picks-over}
+use Rattle.checker.proofs.Sizes.{lends-faults, faults, verdict, Checking}
 use Rattle.checker.proofs.table.check_in_short.Symbol as short-def
 use Rattle.checker.proofs.table.check_in_short.Met as short-thm
 use Rattle.checker.proofs.table.check_in_long.Symbol as long-def
@@ -13,7 +13,7 @@ use Rattle.checker.proofs.table.check.Code as code
 pub check-spec : {M : Type 1} → stated.statement M
 unfolding code.routine
 check-spec 𝓤 H 𝓜 𝓖 𝓡 =
-    picks-over 𝓤 H 𝓜 𝓖 𝓡 (verdict 𝓤 H 𝓜 𝓖 𝓡) (verdict 𝓤 H 𝓜 𝓖 𝓡) 1 rest (yes, tt) (λ κs. (slice-cell, tt)) (λ κs a. check.clauses 𝓤 H (𝓖 .A) (𝓜 .mem) (𝓡 .run) κs a .ensures tt) code.env name code.function (code.unfolded 𝓤 H 𝓜 𝓡) (λ κs. (mut-slice-tells (named 2) (κs .1 .1 .0) u16, tt))
+    picks-over 𝓤 H 𝓜 𝓖 𝓡 (verdict 𝓤 H 𝓜 𝓖 𝓡) (verdict 𝓤 H 𝓜 𝓖 𝓡) 1 faults (λ κs a. check.clauses 𝓤 H (𝓖 .A) (𝓜 .mem) (𝓡 .run) κs a .ensures tt) code.env name code.function (code.unfolded 𝓤 H 𝓜 𝓡)
     3 short-def.name long-def.name (lends-table 6 7 ∷ lends-faults 8 9 ∷ asks short-def.name (1 ∷ 7 ∷ 9 ∷ []) 0 ∷ []) (lends-table 10 11 ∷ lends-faults 12 13 ∷ asks long-def.name (1 ∷ 11 ∷ 13 ∷ []) 0 ∷ []) refl
     (λ κs qs a are l₀ l₁ l₂ l₃ l₄ l₅ l₆ l₇ l₈ l₉ l₁₀ l₁₁ l₁₂ l₁₃. (
       ((tt, (tt, (tt, (record { fits = are .0 .0 .1 .0 }, tt)))), ((tt, (tt, (tt, (record { fits = are .1 .0 .0 .1 .0 }, tt)))), ((tt, (tt, (tt, (record { fits = are .1 .1 .0 .0 .1 .0 }, tt)))), tt))),
