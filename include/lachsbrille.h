@@ -11,9 +11,16 @@
  * State. There is no heap, no global variable and no lock: a call depends on its arguments and on what they lend, so any
  * number of calls may run at once as long as they share no memory that one of them writes.
  *
- * Stack. A function without a table takes less than 1 KB, reading takes 44 KB. Checking, a text, the labels and activating take
- * 72 KB where one look at each record tells that it is sound, as in most pools that implements send, and 482 KB at most; a
- * judgement takes 613 KB at most. Only the last two are bounds for every pool.
+ * Stack. The most bytes that a call takes whatever it is lent: for a pool of up to 12,288 bytes with no list of more than 64 entries,
+ * and for every pool.
+ *
+ *     read                  2,500     11,500
+ *     check                13,000     48,000
+ *     text                 13,000     48,000
+ *     labels               13,000     48,000
+ *     judge                13,000     48,000
+ *     session_activate     13,000     48,000
+ *     the others            1,000      1,000
  *
  * Refusals. A call gives 0 or a refusal's number; where several apply, the one that stands first in its list below. Unless said
  * otherwise a refusal changes no lent memory, and lent numbers and the fields of a returned struct are 0.

@@ -132,19 +132,26 @@ fn every_function_with_lent_memory_is_watched() {
     }
 }
 
-/// Stack figures stand in the header and in the README.
+/// Stack figures stand in the header and in the README, a row for each call.
 #[test]
 fn stack_figures_are_the_same() {
-    let figures = kilobytes(&read("include/lachsbrille.h"));
+    let figures = stack_rows(&read("include/lachsbrille.h"), " *     ");
     assert!(!figures.is_empty());
-    assert_eq!(figures, kilobytes(&read("README.md")));
+    assert_eq!(figures, stack_rows(&read("README.md"), "| "));
 }
 
-/// The numbers of kilobytes that a text names, in their order.
-fn kilobytes(text: &str) -> Vec<u32> {
-    let words: Vec<&str> = text.split_whitespace().collect();
-    let named = words.windows(2).filter(|pair| pair[1].starts_with("KB"));
-    named.map(|pair| pair[0].parse().unwrap()).collect()
+/// The rows of a text that end in two numbers: what stands before them, and
+/// the numbers.
+fn stack_rows(text: &str, start: &str) -> Vec<(String, [u32; 2])> {
+    let number = |word: &str| word.replace(',', "").parse().ok();
+    let rows = text.lines().filter_map(|line| line.strip_prefix(start));
+    let row = |line: &str| {
+        let plain = line.replace(['|', '`'], " ");
+        let words: Vec<&str> = plain.split_whitespace().collect();
+        let (name, figures) = words.split_at(words.len().checked_sub(2)?);
+        Some((name.join(" "), [number(figures[0])?, number(figures[1])?]))
+    };
+    rows.filter_map(row).collect()
 }
 
 fn functions_of_header() -> Declared {

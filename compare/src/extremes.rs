@@ -10,6 +10,14 @@ const DATA: usize = 12;
 /// Bytes of a list's entry.
 const ENTRY: usize = 2;
 
+/// The library lists IDs and DDIs by their remainders: by so many.
+const ID_HEADS: usize = 2_039;
+const DDI_HEADS: usize = 1_021;
+/// Numbers of 16 bits that have one remainder.
+const fn of_one_remainder(heads: usize) -> usize {
+    0xFFFF / heads
+}
+
 pub struct Extreme {
     pub name: &'static str,
     pub objects: Vec<Object>,
@@ -40,6 +48,13 @@ pub fn extremes(bytes: usize) -> Vec<Extreme> {
             "all DDIs again",
             walks(bytes, |index, last| index % last + 1),
         ),
+        ("IDs of equal remainders", crowded_ids(records)),
+        ("the deepest ID", deepest(bytes, |index| index)),
+        (
+            "the deepest ID and DDI",
+            deepest(bytes, |index| index * DDI_HEADS),
+        ),
+        ("equal remainders throughout", crowded_lists(bytes)),
         ("texts of 4-byte characters", long_texts(bytes)),
         ("most faults", most_faults(bytes)),
     ];
@@ -118,6 +133,71 @@ fn walks(bytes: usize, again: impl Fn(usize, usize) -> usize) -> Vec<Object> {
     for index in 0..different {
         let mut data = Object::plain(Kind::Dpd, (first_id + index) as u16);
         data.ddi = index as u16;
+        objects.push(data);
+    }
+    objects
+}
+
+/// The ID of the process data with an index: as many of them as there can be
+/// have one remainder, then the next so many. IDs 0 and 1 are the device's and
+/// the element's.
+fn crowded_id(index: usize) -> u16 {
+    let many = of_one_remainder(ID_HEADS);
+    (2 + index / many + ID_HEADS * (index % many)) as u16
+}
+
+/// Process data with such IDs, and without a fault.
+fn crowded_ids(count: usize) -> Vec<Object> {
+    let mut objects = vec![device(), element(1)];
+    let ids = (0..count).map(crowded_id);
+    objects.extend(ids.map(|id| Object::plain(Kind::Dpd, id)));
+    objects
+}
+
+/// A list that names process data of different DDIs, each of which is the
+/// first with its remainder that is looked for last, and then the first of
+/// them as often as it fits.
+fn deepest(bytes: usize, ddi: impl Fn(usize) -> usize) -> Vec<Object> {
+    let room = bytes - DEVICE - ELEMENT;
+    let count = of_one_remainder(DDI_HEADS).min(room / (2 * DATA));
+    let entries = (room - DATA * count) / ENTRY;
+    listing(
+        count,
+        entries,
+        ddi,
+        |index| {
+            if index < count {
+                index
+            } else {
+                0
+            }
+        },
+    )
+}
+
+/// A list that names as many process data as `walks` has, of equal remainders,
+/// and then all of them again.
+fn crowded_lists(bytes: usize) -> Vec<Object> {
+    let (different, entries) = longest_walks(bytes);
+    let many = of_one_remainder(DDI_HEADS);
+    let ddi = |index: usize| index / many + DDI_HEADS * (index % many);
+    listing(different, entries, ddi, |index| index % different)
+}
+
+/// So many process data with crowded IDs, by an index, and a list whose entries
+/// name them by it.
+fn listing(
+    count: usize,
+    entries: usize,
+    ddi: impl Fn(usize) -> usize,
+    named: impl Fn(usize) -> usize,
+) -> Vec<Object> {
+    let mut element = element(1);
+    element.entries = (0..entries).map(|entry| crowded_id(named(entry))).collect();
+    let mut objects = vec![device(), element];
+    for index in 0..count {
+        let mut data = Object::plain(Kind::Dpd, crowded_id(index));
+        data.ddi = ddi(index) as u16;
         objects.push(data);
     }
     objects

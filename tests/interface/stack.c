@@ -1,6 +1,8 @@
 /*
- * Measures the stack of calls: each runs on a stack of its own that is filled before, and what it has overwritten is counted.
- * The arguments are the header's figures, in KB: without a table, reading, a sound pool, any pool, a judgement.
+ * Measures the stack of every call, over pools of every length and those that are worst for each list inside, against the figures of
+ * the header: an argument for each of its rows, NAME=SHORT,ANY in bytes. Each call runs on a stack of its own that is filled
+ * before, and what it has overwritten is counted; then once more on a stack of no more than the bound, beside a page that nobody may
+ * touch.
  */
 #define _DEFAULT_SOURCE
 #include "check.h"
@@ -11,13 +13,19 @@
 #include <stdlib.h>
 #include <sys/mman.h>
 
-enum { STACK = 4 << 20, UNUSED = 0xA5, KB = 1024, DATA = 12, HIGH_ID = 60000, NO_ID = 60001 };
+/* No call takes more, whatever it is lent. A pool of up to SHORT_POOL bytes without a list of more than SHORT_LIST entries is held to
+ * the figures for short pools. */
+enum { BOUND = 64 << 10, SHORT_POOL = 12 << 10, SHORT_LIST = 64 };
+enum { STACK = 4 << 20, PAGE = 1 << 16, UNUSED = 0xA5 };
+enum { DEVICE = 31, ELEMENT = 13, DATA = 12, LIST_COUNT = 11, LIST = 13, ENTRY = 2 };
 
 static lachsbrille_record table[LACHSBRILLE_RECORDS_MOST];
+static size_t table_length = LACHSBRILLE_RECORDS_MOST;
 static uint16_t faults[LACHSBRILLE_FAULT_WORDS];
 static uint8_t area[LACHSBRILLE_POOL_MOST], other_area[LACHSBRILLE_POOL_MOST];
-static uint8_t pool[LACHSBRILLE_POOL_MOST];
-static size_t pool_length, value, from, to;
+static uint8_t pool[LACHSBRILLE_POOL_MOST + 1];
+static size_t pool_length, longest_list, value, from, to;
+static const char *pool_name;
 static uint8_t error, message[LACHSBRILLE_MESSAGE_LENGTH], record[LACHSBRILLE_LOG_RECORD_MOST];
 static const uint8_t ordinals[LACHSBRILLE_LOG_VALUES_MOST];
 static uint8_t read_ordinals[LACHSBRILLE_LOG_VALUES_MOST];
@@ -25,48 +33,52 @@ static const int32_t values[LACHSBRILLE_LOG_VALUES_MOST];
 static int32_t read_values[LACHSBRILLE_LOG_VALUES_MOST];
 static double shown;
 
+/* ---- the calls */
+
 static void nothing(void)
 {
 }
 
 static void read_pool(void)
 {
-    (void)lachsbrille_read(pool, pool_length, table, LACHSBRILLE_RECORDS_MOST, &value);
+    (void)lachsbrille_read(pool, pool_length, table, table_length, &value);
 }
 
 static void check_pool(void)
 {
-    (void)lachsbrille_check(pool, pool_length, table, LACHSBRILLE_RECORDS_MOST, faults, LACHSBRILLE_FAULT_WORDS, &value);
+    (void)lachsbrille_check(pool, pool_length, table, table_length, faults, LACHSBRILLE_FAULT_WORDS, &value);
 }
 
 static void text(void)
 {
-    (void)lachsbrille_text(pool, pool_length, table, LACHSBRILLE_RECORDS_MOST, 0, &from, &to);
+    (void)lachsbrille_text(pool, pool_length, table, table_length, 0, &from, &to);
+    (void)lachsbrille_text(pool, pool_length, table, table_length, 65535, &from, &to);
 }
 
 static void labels(void)
 {
-    (void)lachsbrille_labels(pool, pool_length, table, LACHSBRILLE_RECORDS_MOST);
+    (void)lachsbrille_labels(pool, pool_length, table, table_length);
+}
+
+static void judge(void)
+{
+    (void)lachsbrille_judge(pool, pool_length, table, table_length, 4, 1, 141, 0, &error);
+    (void)lachsbrille_judge(pool, pool_length, table, table_length, 4, 0, 65535, 0, &error);
 }
 
 static void activate(void)
 {
     lachsbrille_client_session session = {LACHSBRILLE_STAGE_OFFERED, 0, pool_length, pool_length, 0};
-    (void)lachsbrille_session_activate(session, pool, sizeof pool, area, sizeof area, table, LACHSBRILLE_RECORDS_MOST);
+    (void)lachsbrille_session_activate(session, pool, sizeof area, area, sizeof area, table, table_length);
 }
 
-static void judge(void)
-{
-    (void)lachsbrille_judge(pool, pool_length, table, LACHSBRILLE_RECORDS_MOST, 4, 1, 141, 0, &error);
-}
-
-/* Functions without a table. */
+/* The functions without a table, one after the other. */
 static void others(void)
 {
     const lachsbrille_log_fields fields = {.time = 0};
     lachsbrille_client_session session = lachsbrille_session_new();
 
-    (void)lachsbrille_text_is_sound(q, Q);
+    (void)lachsbrille_text_is_sound(pool, pool_length);
     session = lachsbrille_session_offer(session, Q, area, Q, other_area, Q).session;
     session = lachsbrille_session_transfer(session, q, Q, area, Q).session;
     (void)lachsbrille_session_deactivate(session);
@@ -84,48 +96,102 @@ static void others(void)
     (void)lachsbrille_log_read(record, sizeof record, LACHSBRILLE_LAYOUT_ALL, 1);
 }
 
-static void *enter(void *calls)
+/* By the names of the header's rows, with the most that was measured. */
+static struct {
+    const char *name;
+    void (*run)(void);
+    size_t short_figure, any_figure, short_most, any_most;
+} calls[] = {
+    {"read", read_pool, 0, 0, 0, 0},   {"check", check_pool, 0, 0, 0, 0},
+    {"text", text, 0, 0, 0, 0},        {"labels", labels, 0, 0, 0, 0},
+    {"judge", judge, 0, 0, 0, 0},      {"session_activate", activate, 0, 0, 0, 0},
+    {"the others", others, 0, 0, 0, 0}
+};
+enum { CALLS = sizeof calls / sizeof *calls };
+
+/* ---- running */
+
+static void *enter(void *run)
 {
-    (*(void (**)(void))calls)();
+    (*(void (**)(void))run)();
     return NULL;
 }
 
-/* How much of its stack a thread overwrites that makes these calls. */
-static size_t overwritten(void (*calls)(void))
+static void give_up(const char *what)
 {
-    unsigned char *stack =
-        (unsigned char *)mmap(NULL, STACK, PROT_READ | PROT_WRITE, MAP_PRIVATE | MAP_ANONYMOUS, -1, 0);
+    printf("%s\n", what);
+    exit(EXIT_FAILURE);
+}
+
+/* Memory for a stack, behind a page that nobody may touch. */
+static unsigned char *new_stack(size_t size)
+{
+    unsigned char *memory =
+        (unsigned char *)mmap(NULL, PAGE + size, PROT_READ | PROT_WRITE, MAP_PRIVATE | MAP_ANONYMOUS, -1, 0);
+
+    if (memory == MAP_FAILED || mprotect(memory, PAGE, PROT_NONE) != 0) {
+        give_up("no memory for a stack");
+    }
+    return memory + PAGE;
+}
+
+static void run_on(unsigned char *stack, size_t size, void (*run)(void))
+{
     pthread_attr_t attributes;
     pthread_t thread;
+
+    if (pthread_attr_init(&attributes) != 0 || pthread_attr_setstack(&attributes, stack, size) != 0 ||
+        pthread_create(&thread, &attributes, enter, &run) != 0 || pthread_join(thread, NULL) != 0) {
+        give_up("no thread");
+    }
+    (void)pthread_attr_destroy(&attributes);
+}
+
+/* How much of its stack a thread overwrites that makes these calls. */
+static size_t overwritten(void (*run)(void))
+{
+    static unsigned char *stack;
     size_t unused = 0;
 
-    if (stack == MAP_FAILED) {
-        printf("no memory for a stack\n");
-        exit(EXIT_FAILURE);
+    if (stack == NULL) {
+        stack = new_stack(STACK);
     }
     memset(stack, UNUSED, STACK);
-    if (pthread_attr_init(&attributes) != 0 || pthread_attr_setstack(&attributes, stack, STACK) != 0 ||
-        pthread_create(&thread, &attributes, enter, &calls) != 0 || pthread_join(thread, NULL) != 0) {
-        printf("no thread\n");
-        exit(EXIT_FAILURE);
-    }
+    run_on(stack, STACK, run);
     while (unused < STACK && stack[unused] == UNUSED) {
         unused++;
     }
-    (void)pthread_attr_destroy(&attributes);
-    (void)munmap(stack, STACK);
     return STACK - unused;
 }
 
-static void within(const char *what, void (*calls)(void), size_t kilobytes)
+static void measure(void)
 {
-    size_t bytes = overwritten(calls) - overwritten(nothing);
+    static unsigned char *tight;
+    bool is_short = pool_length <= SHORT_POOL && longest_list <= SHORT_LIST;
+    size_t at, bytes, most;
 
-    if (bytes > kilobytes * KB) {
-        printf("%s, pool of %zu bytes: %zu bytes of stack are more than %zu KB\n", what, pool_length, bytes, kilobytes);
-        failures++;
+    if (tight == NULL) {
+        tight = new_stack(BOUND);
+    }
+    for (at = 0; at < CALLS; at++) {
+        bytes = overwritten(calls[at].run) - overwritten(nothing);
+        most = is_short ? calls[at].short_figure : calls[at].any_figure;
+        if (bytes > most) {
+            printf("%s, %s of %zu bytes: %zu bytes of stack, and the header says %zu\n", calls[at].name, pool_name, pool_length,
+                   bytes, most);
+            failures++;
+        }
+        if (is_short && bytes > calls[at].short_most) {
+            calls[at].short_most = bytes;
+        }
+        if (bytes > calls[at].any_most) {
+            calls[at].any_most = bytes;
+        }
+        run_on(tight, BOUND, calls[at].run);
     }
 }
+
+/* ---- pools */
 
 static void put_number(size_t at, size_t number)
 {
@@ -133,60 +199,154 @@ static void put_number(size_t at, size_t number)
     pool[at + 1] = (uint8_t)(number >> 8);
 }
 
-/* Q, and behind it process data as Q's own, as much of it as fits. The last of it may have a high ID and a presentation that is
- * not there. */
-static void make_long(bool faulty)
+/* A device and nothing else. */
+static void begin(const char *name)
 {
-    size_t id = 4;
+    pool_name = name;
+    memcpy(pool, q, DEVICE);
+    pool_length = DEVICE;
+    longest_list = 0;
+}
 
-    memcpy(pool, q, Q);
-    for (pool_length = Q; pool_length + DATA <= sizeof pool; pool_length += DATA) {
-        memcpy(pool + pool_length, q + ELEMENT_END, DATA);
-        put_number(pool_length + 3, id++);
+static void add_element(size_t id, size_t number, size_t parent)
+{
+    memcpy(pool + pool_length, q + DEVICE, ELEMENT);
+    put_number(pool_length + 3, id);
+    put_number(pool_length + 7, number);
+    put_number(pool_length + 9, parent);
+    pool_length += ELEMENT;
+}
+
+/* A list for the element that was added last: it names so many IDs from one on, and again if that is wanted the first of them. */
+static void add_list(size_t first, size_t count, bool again)
+{
+    size_t entries = count + (again ? 1 : 0), start = pool_length - LIST, at;
+
+    put_number(start + LIST_COUNT, entries);
+    for (at = 0; at < entries; at++, pool_length += ENTRY) {
+        put_number(pool_length, first + at % count);
     }
-    if (faulty) {
-        put_number(pool_length - DATA + 3, HIGH_ID);
-        put_number(pool_length - 2, NO_ID);
+    if (entries > longest_list) {
+        longest_list = entries;
     }
 }
 
-/* The calls with a table that do not judge. */
-static void calls_within(size_t reading, size_t most)
+/* Process data of different DDIs, with IDs from one on, as much of it as fits into so many bytes. */
+static void add_data(size_t id, size_t bytes)
 {
-    within("reading", read_pool, reading);
-    within("checking", check_pool, most);
-    within("text", text, most);
-    within("labels", labels, most);
-    within("activating", activate, most);
+    for (; pool_length + DATA <= bytes; pool_length += DATA, id++) {
+        memcpy(pool + pool_length, q + ELEMENT_END, DATA);
+        put_number(pool_length + 3, id);
+        put_number(pool_length + 5, id);
+    }
+}
+
+/* What is worst for each list inside, one by one and all together. IDs from 10 on are process data's. */
+enum { LISTED = 1, REPEATED = 2, NUMBERED = 4, CIRCLING = 8, ALL_WORST = 16 };
+
+static void measure_worst(size_t bytes, size_t list)
+{
+    static const char *const names[] = {"a sound pool", "a pool with a long list", NULL, "a pool with a DDI twice in a long list",
+                                        "a pool with a high element number"};
+    int worst;
+
+    for (worst = 0; worst < ALL_WORST; worst++) {
+        begin(worst < 5 && names[worst] != NULL ? names[worst] : "a pool with several of the worst");
+        add_element(1, 0, 0);
+        if ((worst & (LISTED | REPEATED)) != 0) {
+            add_list(10, list, (worst & REPEATED) != 0);
+        }
+        if ((worst & NUMBERED) != 0) {
+            add_element(2, 4096, 1);
+            add_element(3, 65535, 1);
+        }
+        if ((worst & CIRCLING) != 0) {
+            add_element(4, 3, 5);
+            add_element(5, 4, 4);
+        }
+        add_data(10, bytes);
+        measure();
+    }
+}
+
+static void measure_all(void)
+{
+    /* Q is sound, lacks its process data, and is cut. */
+    static const struct { const char *name; size_t length; } parts[] = {
+        {"Q", Q}, {"Q without its process data", ELEMENT_END}, {"Q cut", Q - 1}, {"no byte", 0}
+    };
+    size_t at;
+
+    for (at = 0; at < sizeof parts / sizeof *parts; at++) {
+        begin(parts[at].name);
+        memcpy(pool, q, Q);
+        pool_length = parts[at].length;
+        measure();
+    }
+    measure_worst(1 << 10, 16);
+    measure_worst(SHORT_POOL, SHORT_LIST - 1);
+    measure_worst(SHORT_POOL, SHORT_LIST + 1);
+    measure_worst(SHORT_POOL + DATA, SHORT_LIST - 1);
+    measure_worst(LACHSBRILLE_POOL_MOST, SHORT_LIST - 1);
+    measure_worst(LACHSBRILLE_POOL_MOST, 4600);
+
+    begin("a pool for whose records the table is too short");
+    add_data(10, LACHSBRILLE_POOL_MOST);
+    table_length = 1;
+    measure();
+    table_length = LACHSBRILLE_RECORDS_MOST;
+
+    begin("a pool of devices, with most faults");
+    for (at = 1; pool_length + DEVICE <= LACHSBRILLE_POOL_MOST; at++, pool_length += DEVICE) {
+        memcpy(pool + pool_length, q, DEVICE);
+        memset(pool + pool_length + 16, 0xFF, 14);
+    }
+    measure();
+
+    begin("a list of entries that name nothing");
+    add_element(1, 0, 0);
+    add_list(10, 32000, false);
+    measure();
+
+    begin("a pool that is too long");
+    add_data(10, LACHSBRILLE_POOL_MOST);
+    pool_length = LACHSBRILLE_POOL_MOST + 1;
+    measure();
+}
+
+/* ---- the header's figures */
+
+static void take_figures(const char *argument)
+{
+    const char *sign = strchr(argument, '=');
+    char *rest;
+    size_t at;
+
+    for (at = 0; sign != NULL && at < CALLS; at++) {
+        if (strlen(calls[at].name) == (size_t)(sign - argument) && strncmp(calls[at].name, argument, sign - argument) == 0) {
+            calls[at].short_figure = strtoul(sign + 1, &rest, 10);
+            calls[at].any_figure = *rest == ',' ? strtoul(rest + 1, NULL, 10) : 0;
+            return;
+        }
+    }
+    printf("the header has a row for no call: %s\n", argument);
+    failures++;
 }
 
 int main(int count, char **arguments)
 {
-    /* A sound pool, one with a fault, and one that is cut. */
-    static const size_t lengths[] = {Q, ELEMENT_END, Q - 1};
-    size_t none, reading, sound, any, judgement, at;
+    int at;
 
-    if (count != 6) {
-        printf("usage: stack NONE READING SOUND ANY JUDGEMENT\n");
-        return EXIT_FAILURE;
+    for (at = 1; at < count; at++) {
+        take_figures(arguments[at]);
     }
-    none = strtoul(arguments[1], NULL, 10);
-    reading = strtoul(arguments[2], NULL, 10);
-    sound = strtoul(arguments[3], NULL, 10);
-    any = strtoul(arguments[4], NULL, 10);
-    judgement = strtoul(arguments[5], NULL, 10);
-    memcpy(pool, q, Q);
-    for (at = 0; at < sizeof lengths / sizeof *lengths; at++) {
-        pool_length = lengths[at];
-        calls_within(reading, pool_length == Q ? sound : any);
-        within("judging", judge, judgement);
+    measure_all();
+    for (at = 0; at < CALLS; at++) {
+        if (calls[at].any_figure > BOUND) {
+            printf("%s: the header says more than %d bytes\n", calls[at].name, BOUND);
+            failures++;
+        }
+        printf("stack of %s: %zu bytes for short pools, %zu for any\n", calls[at].name, calls[at].short_most, calls[at].any_most);
     }
-    make_long(false);
-    calls_within(reading, sound);
-    within("judging", judge, judgement);
-    make_long(true);
-    calls_within(reading, any);
-    within("judging", judge, judgement);
-    within("a function without a table", others, none);
     return failures != 0;
 }

@@ -4,7 +4,8 @@ use super::items;
 use super::keep;
 use super::table::{grouped, Group, Row, Unit};
 use super::times::{time, Rounds, Side};
-use crate::logs::{read_log, read_record, write_record, Draft, Reading, Whole, Writing};
+use crate::library::Of;
+use crate::logs::{read_log, read_record, write_record, Draft, Fields, Reading, Whole, Writing};
 use crate::random::Random;
 use std::hint::black_box;
 
@@ -43,8 +44,11 @@ const LOGS: [(&str, u16, usize, usize); 5] = [
     ("0x000, no value", 0, 0, 0),
 ];
 
+/// A record, with its fields as each side takes them, so that a call is timed
+/// and nothing beside it.
 struct Item {
     draft: Draft,
+    fields: Fields,
     bytes: Vec<u8>,
 }
 
@@ -92,8 +96,12 @@ pub fn bench_records() -> Result<Group, String> {
 impl Item {
     fn draw(random: &mut Random, layout: u16, count: usize) -> Self {
         let draft = Draft::under(random, layout, count, count);
-        let bytes = draft.bytes();
-        Item { draft, bytes }
+        let (fields, bytes) = (Fields::of(&draft.fields), draft.bytes());
+        Item {
+            draft,
+            fields,
+            bytes,
+        }
     }
 
     /// Has both sides do all work once.
@@ -132,7 +140,7 @@ impl Item {
         keep(write_record(
             black_box(&mut lent.to),
             draft.layout,
-            &draft.fields,
+            self.fields,
             draft.logged,
             &draft.ordinals,
             &draft.values,

@@ -2,12 +2,11 @@
 
 pub use lachsbrille::c::{
     log_optional_fields as optional_fields, log_read as read_log, log_read_record as read_record,
-    LogFields as Fields, LogMarks as Marks, LogOutcome as Log, LogRecord as Record,
-    LogWritten as Written,
+    log_write_record as write_record, LogFields as Fields, LogMarks as Marks, LogOutcome as Log,
+    LogRecord as Record, LogWritten as Written,
 };
 
 use crate::library::Of;
-use lachsbrille::c;
 use second::{LogFields, LogRecord, LogRefusal};
 
 impl Of<&LogFields> for Fields {
@@ -90,18 +89,4 @@ impl Of<Result<usize, LogRefusal>> for Log {
             },
         }
     }
-}
-
-/// Writes a record with these fields.
-pub fn write_record(
-    to: &mut [u8],
-    layout: u16,
-    fields: &LogFields,
-    logged: usize,
-    ordinals: &[u8],
-    values: &[i32],
-    count: usize,
-) -> Written {
-    let fields = Fields::of(fields);
-    c::log_write_record(to, layout, fields, logged, ordinals, values, count)
 }

@@ -11,7 +11,7 @@ mod whole;
 mod writing;
 
 pub use draft::Draft;
-pub use library::{read_log, read_record, write_record};
+pub use library::{read_log, read_record, write_record, Fields};
 pub use reading::Reading;
 pub use whole::Whole;
 pub use writing::Writing;

@@ -2,7 +2,7 @@
 
 use super::draft::{bytes_of, draw_count, draw_layout, Draft, HEADER_COUNTS};
 use super::ladder::{Ladder, MORE};
-use super::library::{self, Written};
+use super::library::{self, Fields, Written};
 use super::plan;
 use super::reading::Reading;
 use super::rules::{place, Causes, MOST_VALUES, PAIR_BYTES, WIDTHS, WRITING};
@@ -72,8 +72,8 @@ impl<'a> Writing<'a> {
         let ordinals = LentArea::new(&draft.ordinals);
         let values = LentArea::new(&draft.values);
         let lists = (ordinals.contents(), values.contents());
-        let to = ours.contents_mut();
-        let library = library::write_record(to, layout, fields, logged, lists.0, lists.1, count);
+        let (to, given) = (ours.contents_mut(), Fields::of(fields));
+        let library = library::write_record(to, layout, given, logged, lists.0, lists.1, count);
         let (lists, to) = ((&draft.ordinals, &draft.values), theirs.contents_mut());
         let second = second::write_record(to, layout, fields, logged, lists.0, lists.1, count);
         let second = Written::of(second);

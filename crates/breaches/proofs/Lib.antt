@@ -1,3 +1,4 @@
 -- What belongs to no one function.
-pub mod Tabled
-pub mod Clearing
+pub mod Rows
+pub mod Looking
+pub mod ElementRows

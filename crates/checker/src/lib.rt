@@ -21,18 +21,22 @@ pub enum Verdict {
     TableShort(usize),
 }
 
-// Checks a pool for a table of so many entries, by a list of numbers that reaches for every record: puts as many faults as fit into
-// the buffer. The list then starts with the records' entries; after a refusal it is free.
-pub fn check_by(p: &[u8], room: usize, rows: &mut [u16], faults: &mut [u16]) -> Verdict
-    requires { ⌜ Reaches (now rows) (now p) ⌝ }
-    ensures { λ r. ⌜ (verdictOf r ≡ checkOf (now (p .entry)) room) × (recordsIn r ≡ countOf (now (p .entry)) room) × Listed (now (p .entry)) room (now (rows .entry)) (now (rows .exit)) × (now (faults .exit) ≡ faultsAfter (now (p .entry)) room (now (faults .entry))) ⌝ }
+// Checks a pool for a table of so many entries, by a list that reaches for the starts of every record: puts as many faults as fit
+// into the buffer. The list then begins with the records' starts and the end of the last; after a refusal it is free.
+pub fn check_by(p: &[u8], room: usize, starts: &mut [u16], faults: &mut [u16]) -> Verdict
+    requires { ⌜ Reaches (now starts) (now p) ⌝ }
+    ensures { λ r. ⌜ (verdictOf r ≡ checkOf (now (p .entry)) room) × (recordsIn r ≡ countOf (now (p .entry)) room) × Listed (now (p .entry)) room (now (starts .exit)) × (now (faults .exit) ≡ faultsAfter (now (p .entry)) room (now (faults .entry))) ⌝ }
 {
-    let outcome = pool::list_for(p, room, rows);
+    let outcome = pool::list_for(p, room, starts);
     match outcome {
-        Outcome::Records(count) => Verdict::Checked {
-            records: count,
-            faults: counting::count_faults(p, rows, count, faults),
-        },
+        Outcome::Records(count) => {
+            let end = count + 1;
+            let found = counting::count_faults(p, &starts[..end], faults);
+            Verdict::Checked {
+                records: count,
+                faults: found,
+            }
+        }
         Outcome::Empty => Verdict::Empty,
         Outcome::TooLong => Verdict::TooLong,
         Outcome::NoMark(at) => Verdict::NoMark(at),

@@ -1,4 +1,4 @@
-// Checking over the working table: the rows that the check lists the records in are copied into the table, so the pool is walked
+// Checking over the working table: the starts that the check lists the records by serve for filling the table, so the pool is walked
 // once.
 use super::Verdict;
 use working_table::Record;
@@ -9,46 +9,40 @@ ghost use Rattle.working_table.specs.Table.{recordsAfter};
 ghost use Rattle.checker.specs.Checking.{verdictOf, recordsIn, checkOf, countOf, faultsAfter};
 ghost use Rattle.checker.specs.Tables.{ChecksInto};
 
-// Rows for a pool of at most 1,536 bytes, for one of at most 12,288, and for every pool: clearing long ones is a good part of the
-// time that a short pool takes. A record has at least 12 bytes.
-fn check_in_short(p: &[u8], table: &mut [Record], faults: &mut [u16]) -> Verdict
-    requires { ⌜ length (now p) ≤ 1536 ⌝ }
-    ensures { λ r. ⌜ ChecksInto (now (p .entry)) (now (table .entry)) (now (faults .entry)) r (now (table .exit)) (now (faults .exit)) ⌝ }
+// The verdict as it is: what checking answers, of which the count of records fills the table.
+pub fn same(verdict: Verdict) -> Verdict
+    ensures { λ r. ⌜ r ≡ verdict ⌝ }
 {
-    let mut rows = [0u16; 512];
-    let verdict = super::check_by(p, table.len(), &mut rows, faults);
-    working_table::gather(&rows, super::records_of(verdict), table);
     verdict
 }
 
-fn check_in_middle(p: &[u8], table: &mut [Record], faults: &mut [u16]) -> Verdict
+// A list for a pool of at most 12,288 bytes, and one for every pool: clearing a long one is a good part of the time that a short pool
+// takes. A record has at least 12 bytes, and the end of the last stands behind the starts.
+fn check_in_short(p: &[u8], table: &mut [Record], faults: &mut [u16]) -> Verdict
     requires { ⌜ length (now p) ≤ 12288 ⌝ }
     ensures { λ r. ⌜ ChecksInto (now (p .entry)) (now (table .entry)) (now (faults .entry)) r (now (table .exit)) (now (faults .exit)) ⌝ }
 {
-    let mut rows = [0u16; 4096];
-    let verdict = super::check_by(p, table.len(), &mut rows, faults);
-    working_table::gather(&rows, super::records_of(verdict), table);
-    verdict
+    let mut starts = [0u16; 1025];
+    let verdict = super::check_by(p, table.len(), &mut starts, faults);
+    working_table::gather(p, &starts, super::records_of(verdict), table);
+    same(verdict)
 }
 
 fn check_in_long(p: &[u8], table: &mut [Record], faults: &mut [u16]) -> Verdict
     ensures { λ r. ⌜ ChecksInto (now (p .entry)) (now (table .entry)) (now (faults .entry)) r (now (table .exit)) (now (faults .exit)) ⌝ }
 {
-    let mut rows = [0u16; 21844];
-    let verdict = super::check_by(p, table.len(), &mut rows, faults);
-    working_table::gather(&rows, super::records_of(verdict), table);
-    verdict
+    let mut starts = [0u16; 5462];
+    let verdict = super::check_by(p, table.len(), &mut starts, faults);
+    working_table::gather(p, &starts, super::records_of(verdict), table);
+    same(verdict)
 }
 
 // Checks a pool: fills the table as reading does, and puts as many faults as fit into the buffer.
 pub fn check(p: &[u8], table: &mut [Record], faults: &mut [u16]) -> Verdict
     ensures { λ r. ⌜ (verdictOf r ≡ checkOf (now (p .entry)) (length (now (table .entry)))) × (recordsIn r ≡ countOf (now (p .entry)) (length (now (table .entry)))) × (now (table .exit) ≡ recordsAfter (now (p .entry)) (now (table .entry))) × (now (faults .exit) ≡ faultsAfter (now (p .entry)) (length (now (table .entry))) (now (faults .entry))) ⌝ }
 {
-    if p.len() <= 1536 {
-        return check_in_short(p, table, faults);
-    }
     if p.len() <= 12288 {
-        return check_in_middle(p, table, faults);
+        return check_in_short(p, table, faults);
     }
     check_in_long(p, table, faults)
 }

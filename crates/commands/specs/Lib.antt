@@ -1,3 +1,2 @@
 -- What the contracts of `commands` cite.
 pub mod Tables
-pub mod Parts

@@ -1,4 +1,3 @@
 -- What belongs to no one function.
+pub mod Sighting
 pub mod Whole
-pub mod Lists
-pub mod Tries

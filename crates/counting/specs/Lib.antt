@@ -1,2 +1,2 @@
 -- What the contracts of `counting` cite.
-pub mod Trying
+pub mod Passing

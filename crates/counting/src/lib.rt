@@ -1,308 +1,286 @@
-// Counting the faults of a pool that has been listed, with lists that are as short as the pool allows: clearing long ones would take
-// most of the time.
-use leading::Tried;
+// Counting the faults of a pool that has been listed, in one pass: each record is looked at once, and its faults are put at once, so
+// that they come in order.
 ghost use mathlib.Core.Path.{_≡_};
-ghost use mathlib.Core.Bool.{true};
-ghost use Prim.Native.Nat.{_*_, _≤_, _<_};
+ghost use mathlib.Core.Bool.{true, false, _&&_, _||_};
+ghost use Prim.Native.Nat.{ℕ, _+_, _*_, _≤_, _<_, _^_};
+ghost use lib.Dec.{eqb, ltb};
 ghost use lib.ListN.{length};
-ghost use Rattle.pool.specs.Reading.{width};
+ghost use Rattle.marks.specs.Bits.{bitAt};
 ghost use Rattle.faults.specs.Emission.{Emits};
+ghost use Rattle.pool.specs.Walk.{entriesOf, Divided};
 ghost use Rattle.naming.specs.Records.{kindAt};
 ghost use Rattle.naming.specs.Naming.{firstOf};
-ghost use Rattle.naming.specs.Lists.{shown, Blank, Roomy};
+ghost use Rattle.naming.specs.Lists.{Blank};
+ghost use Rattle.naming.specs.Chained.{Names};
 ghost use Rattle.rules.specs.Table.{breachesIn};
-ghost use Rattle.breaches.specs.Lists.{Prepared, Lent};
-ghost use Rattle.leading.specs.Leading.{Led};
-ghost use Rattle.counting.specs.Trying.{Completes, Told};
+ghost use Rattle.counting.specs.Passing.{Completes, Marked, Sighted, Added};
 
-// The faults of a pool that has been prepared, in order, from a record on: the records before have none. The first device's
-// number is given, 0 where there is none. Behind a record with a fault most often comes another one: then no time goes into a look
-// whether it has none.
-fn put_rest(
+// After some records: how many faults were counted, and whether rules 8 and 9 are now read off marks under the records.
+struct Passed {
+    n: usize,
+    full: bool,
+}
+
+// Whether what has been noted so far does not tell rules 8 and 9 of a device element: its number is over 4095, or its parent, of
+// which number and kind are given, is a device element that does not stand before it.
+fn is_unusual(element: u16, parent: u16, kind: u16, i: usize) -> bool
+    ensures { λ r. ⌜ r ≡ (ltb 4095 element || (eqb kind 2 && ltb i parent)) ⌝ }
+{
+    (4095 < element) | ((kind == 2) & (i < parent as usize))
+}
+
+// Marks every record that breaks rule 8 or 9. Rarely called: the lists that it takes are not those of every check.
+fn mark_all(
     p: &[u8],
-    table: &[u16],
-    count: usize,
-    index: &[u16],
-    numbers: &[u16],
-    ups: &[u16],
-    device: u16,
-    room: usize,
-    list: &mut [u16],
+    starts: &[u16],
+    heads: &[u16],
+    next: &[u16],
+    again: &mut [u8],
+    endless: &mut [u8],
+)
+    requires { ⌜ Names (now p) (now starts) (now heads) (now next) × Blank (now again) × Blank (now endless) × (length (now starts) ≤ 8 * length (now again)) × (length (now starts) ≤ 8 * length (now endless)) ⌝ }
+    ensures { λ _. ⌜ Marked (now (p .entry)) (now (starts .entry)) (now (again .exit)) (now (endless .exit)) ⌝ }
+{
+    chains::mark_repeats(p, starts, again);
+    chains::mark_endless(p, starts, heads, next, endless);
+}
+
+// Has all records marked where that is now wanted for the first time. Tells whether they are marked.
+fn settle(
+    p: &[u8],
+    starts: &[u16],
+    heads: &[u16],
+    next: &[u16],
+    full: bool,
+    unusual: bool,
+    again: &mut [u8],
+    endless: &mut [u8],
+) -> bool
+    requires { ⌜ Names (now p) (now starts) (now heads) (now next) × (length (now starts) ≤ 8 * length (now again)) × (length (now starts) ≤ 8 * length (now endless)) × (full ≡ true → Marked (now p) (now starts) (now again) (now endless)) × (full ≡ false → Blank (now again) × Blank (now endless)) ⌝ }
+    ensures { λ r. ⌜ (r ≡ true → Marked (now (p .entry)) (now (starts .entry)) (now (again .exit)) (now (endless .exit))) × (r ≡ false → (full ≡ false) × (unusual ≡ false) × Blank (now (again .exit)) × Blank (now (endless .exit))) ⌝ }
+{
+    if full {
+        return true;
+    }
+    if unusual {
+        mark_all(p, starts, heads, next, again, endless);
+        return true;
+    }
+    false
+}
+
+// Rule 8: whether an earlier device element has the number of record i, which is noted.
+fn is_again(numbers: &mut [u8], again: &[u8], i: usize, element: u16, full: bool) -> bool
+    requires { ⌜ (i < 8 * length (now again)) × (full ≡ false → element < 8 * length (now numbers)) ⌝ }
+    ensures { λ r. ⌜ (full ≡ true → r ≡ bitAt (now (again .entry)) i) × (full ≡ false → (r ≡ bitAt (now (numbers .entry)) element) × ((j : ℕ) → j < 8 * length (now (numbers .entry)) → bitAt (now (numbers .exit)) j ≡ (eqb j element || bitAt (now (numbers .entry)) j))) ⌝ }
+{
+    if full {
+        return marks::is_marked(again, i);
+    }
+    marks::note(numbers, element as usize)
+}
+
+// Rule 9: whether the chain of parents from record i does not end.
+fn is_endless(endless: &[u8], i: usize, full: bool) -> bool
+    requires { ⌜ i < 8 * length (now endless) ⌝ }
+    ensures { λ r. ⌜ (full ≡ true → r ≡ bitAt (now (endless .entry)) i) × (full ≡ false → r ≡ false) ⌝ }
+{
+    if full {
+        return marks::is_marked(endless, i);
+    }
+    false
+}
+
+// Record i, a device element.
+fn pass_element(
+    p: &[u8],
+    starts: &[u16],
+    heads: &[u16],
+    next: &[u16],
+    i: usize,
+    passed: Passed,
+    numbers: &mut [u8],
+    again: &mut [u8],
+    endless: &mut [u8],
     seen: &mut [u16],
-    from: usize,
+    faults: &mut [u16],
+) -> Passed
+    requires { ⌜ Names (now p) (now starts) (now heads) (now next) × (i + 1 < length (now starts)) × (kindAt (entriesOf (now p) (now starts)) i ≡ 2) × Sighted (now p) (now starts) i (passed .full) (now numbers) (now again) (now endless) × (1024 ≤ length (now seen)) × (passed .n < 2 ^ 37) ⌝ }
+    ensures { λ r. ⌜ Added (now (p .entry)) (now (starts .entry)) i (now (faults .entry)) (passed .n) (now (faults .exit)) (r .n) × Sighted (now (p .entry)) (now (starts .entry)) (i + 1) (r .full) (now (numbers .exit)) (now (again .exit)) (now (endless .exit)) ⌝ }
+{
+    let e = views::device_element(p, starts[i]);
+    let parent = naming::named_at(p, starts, heads, next, e.parent);
+    let kind = naming::kind_at(p, starts, parent);
+    let unusual = is_unusual(e.number, parent, kind, i);
+    let full = settle(p, starts, heads, next, passed.full, unusual, again, endless);
+    let repeated = is_again(numbers, again, i, e.number, full);
+    let circling = is_endless(endless, i, full);
+    let n = breaches::put_element(
+        p,
+        starts,
+        heads,
+        next,
+        i,
+        e,
+        parent,
+        kind,
+        repeated,
+        circling,
+        seen,
+        faults,
+        passed.n,
+    );
+    Passed { n, full }
+}
+
+// Record i.
+fn pass(
+    p: &[u8],
+    starts: &[u16],
+    heads: &[u16],
+    next: &[u16],
+    device: u16,
+    i: usize,
+    passed: Passed,
+    numbers: &mut [u8],
+    again: &mut [u8],
+    endless: &mut [u8],
+    seen: &mut [u16],
+    faults: &mut [u16],
+) -> Passed
+    requires { ⌜ Names (now p) (now starts) (now heads) (now next) × (i + 1 < length (now starts)) × (device ≡ firstOf (kindAt (entriesOf (now p) (now starts))) 1 (length (entriesOf (now p) (now starts)))) × Sighted (now p) (now starts) i (passed .full) (now numbers) (now again) (now endless) × (1024 ≤ length (now seen)) × (passed .n < 2 ^ 37) ⌝ }
+    ensures { λ r. ⌜ Added (now (p .entry)) (now (starts .entry)) i (now (faults .entry)) (passed .n) (now (faults .exit)) (r .n) × Sighted (now (p .entry)) (now (starts .entry)) (i + 1) (r .full) (now (numbers .exit)) (now (again .exit)) (now (endless .exit)) ⌝ }
+{
+    let kind = records::view::kind(p, starts[i]);
+    if kind == 2 {
+        return pass_element(
+            p,
+            starts,
+            heads,
+            next,
+            i,
+            passed,
+            numbers,
+            again,
+            endless,
+            seen,
+            faults,
+        );
+    }
+    let full = passed.full;
+    let n = breaches::put_other(p, starts, heads, next, device, i, kind, faults, passed.n);
+    Passed { n, full }
+}
+
+// The faults of all records, behind those of the whole pool. The first device's number is given, 0 where there is none.
+fn put_records(
+    p: &[u8],
+    starts: &[u16],
+    heads: &[u16],
+    next: &[u16],
+    device: u16,
+    numbers: &mut [u8],
+    again: &mut [u8],
+    endless: &mut [u8],
+    seen: &mut [u16],
     faults: &mut [u16],
     start: usize,
 ) -> usize
-    requires { ⌜ Prepared (now p) (now table) count (now index) (now numbers) (now ups) × Roomy (now p) (shown (now table) count) room × Lent room (now list) (now seen) × (device ≡ firstOf (kindAt (shown (now table) count)) 1 count) × Led (now p) (shown (now table) count) count from × (start ≤ 2) ⌝ }
-    ensures { λ r. ⌜ Completes (now (p .entry)) (shown (now (table .entry)) count) (now (faults .entry)) start (now (faults .exit)) r ⌝ }
+    requires { ⌜ Names (now p) (now starts) (now heads) (now next) × (device ≡ firstOf (kindAt (entriesOf (now p) (now starts))) 1 (length (entriesOf (now p) (now starts)))) × Sighted (now p) (now starts) 0 false (now numbers) (now again) (now endless) × (1024 ≤ length (now seen)) × (start ≤ 2) ⌝ }
+    ensures { λ r. ⌜ Completes (now (p .entry)) (entriesOf (now (p .entry)) (now (starts .entry))) (now (faults .entry)) start (now (faults .exit)) r ⌝ }
 {
-    let mut n = start;
-    let mut i = from;
-    let mut looks = false;
+    let count = starts.len() - 1;
+    let mut passed = Passed {
+        n: start,
+        full: false,
+    };
+    let mut i: usize = 0;
     while i < count {
-        let before = n;
-        n = breaches::record::put_record(
+        passed = pass(
             p,
-            table,
-            count,
-            index,
-            numbers,
-            ups,
+            starts,
+            heads,
+            next,
             device,
-            room,
-            list,
-            seen,
             i,
-            looks,
+            passed,
+            numbers,
+            again,
+            endless,
+            seen,
             faults,
-            n,
         );
-        looks = n == before;
         i += 1;
     }
-    n
+    passed.n
 }
 
-// Finds out what IDs name and which chains end. Tells whether the lists are long enough for this pool.
-fn prepare(
+// The faults of a pool whose IDs have been listed, with marks for as many records as it has.
+pub fn put_all(
     p: &[u8],
-    table: &[u16],
-    count: usize,
-    index: &mut [u16],
-    numbers: &mut [u16],
-    ups: &mut [u16],
-    room: usize,
-) -> bool
-    requires { ⌜ (count * width ≤ length (now table)) × (count ≤ 8192) × Blank (now index) × Blank (now numbers) × Blank (now ups) × (count < length (now ups)) ⌝ }
-    ensures { λ r. ⌜ (r ≡ true → Prepared (now (p .entry)) (now (table .entry)) count (now (index .exit)) (now (numbers .exit)) (now (ups .exit)) × Roomy (now (p .entry)) (shown (now (table .entry)) count) room) × (65536 ≤ length (now (index .entry)) → 65536 ≤ length (now (numbers .entry)) → Roomy (now (p .entry)) (shown (now (table .entry)) count) room → r ≡ true) ⌝ }
-{
-    if !naming::index_ids(table, count, index) {
-        return false;
-    }
-    if !naming::index_numbers(p, table, count, room, numbers) {
-        return false;
-    }
-    chains::chains(p, table, count, index, ups);
-    true
-}
-
-// Short lists, for a short pool with small IDs: clearing long ones would take most of the time.
-fn try_short(
-    p: &[u8],
-    table: &[u16],
-    count: usize,
-    device: u16,
-    from: usize,
+    starts: &[u16],
+    heads: &[u16],
+    next: &[u16],
+    again: &mut [u8],
+    endless: &mut [u8],
     faults: &mut [u16],
-    start: usize,
-) -> Tried
-    requires { ⌜ (count * width ≤ length (now table)) × (count ≤ 8192) × (device ≡ firstOf (kindAt (shown (now table) count)) 1 count) × Led (now p) (shown (now table) count) count from × (start ≤ 2) ⌝ }
-    ensures { λ r. ⌜ Told (now (p .entry)) (shown (now (table .entry)) count) (now (faults .entry)) start (now (faults .exit)) r ⌝ }
-{
-    if 127 < count {
-        return Tried::Short;
-    }
-    let mut index = [0u16; 512];
-    let mut numbers = [0u16; 512];
-    let mut ups = [0u16; 128];
-    if !prepare(p, table, count, &mut index, &mut numbers, &mut ups, 128) {
-        return Tried::Short;
-    }
-    let mut list = [0u16; 128];
-    let mut seen = [0u16; 1024];
-    Tried::Counted(put_rest(
-        p,
-        table,
-        count,
-        &index,
-        &numbers,
-        &ups,
-        device,
-        128,
-        &mut list,
-        &mut seen,
-        from,
-        faults,
-        start,
-    ))
-}
-
-// Lists for a pool of any length with the IDs, element numbers and lists of entries that implements use.
-fn try_middle(
-    p: &[u8],
-    table: &[u16],
-    count: usize,
-    device: u16,
-    from: usize,
-    faults: &mut [u16],
-    start: usize,
-) -> Tried
-    requires { ⌜ (count * width ≤ length (now table)) × (count ≤ 8192) × (device ≡ firstOf (kindAt (shown (now table) count)) 1 count) × Led (now p) (shown (now table) count) count from × (start ≤ 2) ⌝ }
-    ensures { λ r. ⌜ Told (now (p .entry)) (shown (now (table .entry)) count) (now (faults .entry)) start (now (faults .exit)) r ⌝ }
-{
-    let mut index = [0u16; 8192];
-    let mut numbers = [0u16; 8192];
-    let mut ups = [0u16; 8193];
-    if !prepare(p, table, count, &mut index, &mut numbers, &mut ups, 1024) {
-        return Tried::Short;
-    }
-    let mut list = [0u16; 1024];
-    let mut seen = [0u16; 1024];
-    Tried::Counted(put_rest(
-        p,
-        table,
-        count,
-        &index,
-        &numbers,
-        &ups,
-        device,
-        1024,
-        &mut list,
-        &mut seen,
-        from,
-        faults,
-        start,
-    ))
-}
-
-// The same for lists of entries of any length.
-fn try_wide(
-    p: &[u8],
-    table: &[u16],
-    count: usize,
-    device: u16,
-    from: usize,
-    faults: &mut [u16],
-    start: usize,
-) -> Tried
-    requires { ⌜ (count * width ≤ length (now table)) × (count ≤ 8192) × (device ≡ firstOf (kindAt (shown (now table) count)) 1 count) × Led (now p) (shown (now table) count) count from × (start ≤ 2) ⌝ }
-    ensures { λ r. ⌜ Told (now (p .entry)) (shown (now (table .entry)) count) (now (faults .entry)) start (now (faults .exit)) r ⌝ }
-{
-    let mut index = [0u16; 8192];
-    let mut numbers = [0u16; 8192];
-    let mut ups = [0u16; 8193];
-    if !prepare(p, table, count, &mut index, &mut numbers, &mut ups, 32768) {
-        return Tried::Short;
-    }
-    let mut list = [0u16; 32768];
-    let mut seen = [0u16; 32768];
-    Tried::Counted(put_rest(
-        p,
-        table,
-        count,
-        &index,
-        &numbers,
-        &ups,
-        device,
-        32768,
-        &mut list,
-        &mut seen,
-        from,
-        faults,
-        start,
-    ))
-}
-
-// Lists for every pool.
-fn count_long(
-    p: &[u8],
-    table: &[u16],
-    count: usize,
-    device: u16,
-    from: usize,
-    faults: &mut [u16],
-    start: usize,
 ) -> usize
-    requires { ⌜ (count * width ≤ length (now table)) × (count ≤ 8192) × (device ≡ firstOf (kindAt (shown (now table) count)) 1 count) × Led (now p) (shown (now table) count) count from × (start ≤ 2) × Roomy (now p) (shown (now table) count) 32768 ⌝ }
-    ensures { λ r. ⌜ Completes (now (p .entry)) (shown (now (table .entry)) count) (now (faults .entry)) start (now (faults .exit)) r ⌝ }
+    requires { ⌜ Names (now p) (now starts) (now heads) (now next) × Blank (now again) × Blank (now endless) × (length (now starts) ≤ 8 * length (now again)) × (length (now starts) ≤ 8 * length (now endless)) ⌝ }
+    ensures { λ r. ⌜ Emits (now (faults .entry)) 0 (breachesIn (now (p .entry)) (entriesOf (now (p .entry)) (now (starts .entry)))) (now (faults .exit)) r ⌝ }
 {
-    let mut index = [0u16; 65536];
-    let mut numbers = [0u16; 65536];
-    let mut ups = [0u16; 8193];
-    if !prepare(p, table, count, &mut index, &mut numbers, &mut ups, 32768) {
-        return 0;
-    }
-    let mut list = [0u16; 32768];
-    let mut seen = [0u16; 32768];
-    put_rest(
+    let device = fields::whole::first_device(p, starts);
+    let start = fields::whole::put_pool(p, starts, device, faults);
+    let mut numbers = [0u8; 512];
+    let mut seen = [0u16; 1024];
+    put_records(
         p,
-        table,
-        count,
-        &index,
-        &numbers,
-        &ups,
+        starts,
+        heads,
+        next,
         device,
-        32768,
-        &mut list,
+        &mut numbers,
+        again,
+        endless,
         &mut seen,
-        from,
         faults,
         start,
     )
 }
 
-// Counts and puts the faults of the records from one on, with long lists.
-fn count_wide(
-    p: &[u8],
-    table: &[u16],
-    count: usize,
-    device: u16,
-    from: usize,
-    faults: &mut [u16],
-    start: usize,
-) -> usize
-    requires { ⌜ (count * width ≤ length (now table)) × (count ≤ 8192) × (device ≡ firstOf (kindAt (shown (now table) count)) 1 count) × Led (now p) (shown (now table) count) count from × (start ≤ 2) × Roomy (now p) (shown (now table) count) 32768 ⌝ }
-    ensures { λ r. ⌜ Completes (now (p .entry)) (shown (now (table .entry)) count) (now (faults .entry)) start (now (faults .exit)) r ⌝ }
+// Lists for a pool of up to 1,024 records.
+fn count_short(p: &[u8], starts: &[u16], faults: &mut [u16]) -> usize
+    requires { ⌜ Divided (now p) (now starts) × (length (now starts) ≤ 1025) ⌝ }
+    ensures { λ r. ⌜ Emits (now (faults .entry)) 0 (breachesIn (now (p .entry)) (entriesOf (now (p .entry)) (now (starts .entry)))) (now (faults .exit)) r ⌝ }
 {
-    let wide = try_wide(p, table, count, device, from, faults, start);
-    if let Tried::Counted(n) = wide {
-        return n;
-    }
-    count_long(p, table, count, device, from, faults, start)
+    let mut heads = [0u16; 509];
+    let mut next = [0u16; 1025];
+    naming::name_ids(p, starts, &mut heads, &mut next);
+    let mut again = [0u8; 129];
+    let mut endless = [0u8; 129];
+    put_all(p, starts, &heads, &next, &mut again, &mut endless, faults)
 }
 
-// Counts and puts the faults of the records, of which so many from the first on have none, with the shortest lists that do.
-fn count_rest(
-    p: &[u8],
-    table: &[u16],
-    count: usize,
-    device: u16,
-    clear: usize,
-    faults: &mut [u16],
-    start: usize,
-) -> usize
-    requires { ⌜ (count * width ≤ length (now table)) × (count ≤ 8192) × (device ≡ firstOf (kindAt (shown (now table) count)) 1 count) × Led (now p) (shown (now table) count) count clear × (start ≤ 2) × Roomy (now p) (shown (now table) count) 32768 ⌝ }
-    ensures { λ r. ⌜ Completes (now (p .entry)) (shown (now (table .entry)) count) (now (faults .entry)) start (now (faults .exit)) r ⌝ }
+// Lists for every pool.
+fn count_long(p: &[u8], starts: &[u16], faults: &mut [u16]) -> usize
+    requires { ⌜ Divided (now p) (now starts) ⌝ }
+    ensures { λ r. ⌜ Emits (now (faults .entry)) 0 (breachesIn (now (p .entry)) (entriesOf (now (p .entry)) (now (starts .entry)))) (now (faults .exit)) r ⌝ }
 {
-    let from = leading::sound::widened(p, table, count, device, clear, start);
-    if from == count {
-        return start;
-    }
-    let short = try_short(p, table, count, device, from, faults, start);
-    if let Tried::Counted(n) = short {
-        return n;
-    }
-    let middle = try_middle(p, table, count, device, from, faults, start);
-    if let Tried::Counted(n) = middle {
-        return n;
-    }
-    count_wide(p, table, count, device, from, faults, start)
+    let mut heads = [0u16; 2039];
+    let mut next = [0u16; 5462];
+    naming::name_ids(p, starts, &mut heads, &mut next);
+    let mut again = [0u8; 684];
+    let mut endless = [0u8; 684];
+    put_all(p, starts, &heads, &next, &mut again, &mut endless, faults)
 }
 
-// Counts and puts the faults of a pool that has been read into a table. Where the pool as a whole has none, most often no
-// record has one.
-pub fn count_faults(p: &[u8], table: &[u16], count: usize, faults: &mut [u16]) -> usize
-    requires { ⌜ (count * width ≤ length (now table)) × (count ≤ 8192) × Roomy (now p) (shown (now table) count) 32768 ⌝ }
-    ensures { λ r. ⌜ Emits (now (faults .entry)) 0 (breachesIn (now (p .entry)) (shown (now (table .entry)) count)) (now (faults .exit)) r ⌝ }
+// Counts and puts the faults of a pool that has been listed, with lists of the pool's size: clearing long ones would take most of
+// the time that a short one takes.
+pub fn count_faults(p: &[u8], starts: &[u16], faults: &mut [u16]) -> usize
+    requires { ⌜ Divided (now p) (now starts) ⌝ }
+    ensures { λ r. ⌜ Emits (now (faults .entry)) 0 (breachesIn (now (p .entry)) (entriesOf (now (p .entry)) (now (starts .entry)))) (now (faults .exit)) r ⌝ }
 {
-    let device = fields::whole::first_device(table, count);
-    let start = fields::whole::put_pool(p, table, count, device, faults);
-    if 0 < start {
-        return count_rest(p, table, count, device, 0, faults, start);
+    if starts.len() <= 1025 {
+        return count_short(p, starts, faults);
     }
-    let from = leading::sound::leading(p, table, count, device);
-    if from == count {
-        return start;
-    }
-    count_rest(p, table, count, device, from, faults, start)
+    count_long(p, starts, faults)
 }

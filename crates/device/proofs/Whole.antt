@@ -1,10 +1,9 @@
 -- A record of a pool that is read lies within it, and so do its texts. Assumes nothing.
-use mathlib.Core.Path.{_≡_, refl, sym, ap, _∙_, subst}
+use mathlib.Core.Path.{_≡_, refl, sym, _∙_}
 use mathlib.Core.Bool.{true}
 use mathlib.Core.List.{List, [], _∷_, _++_}
-use Prim.Native.Nat.{ℕ, zero, suc, _+_, _<_, _≤_}
+use Prim.Native.Nat.{ℕ, _+_, _≤_}
 use native.Mathlib.Omega.{arith}
-use native.Mathlib.Decide.{decLt}
 use borrow.Author.Tests.{leb-true}
 use lib.Dec.{leb, ltb}
 use lib.ListN.{length, getD, take}
@@ -18,9 +17,6 @@ use Rattle.records.specs.declared.Extent.{Extent}
 use Rattle.records.specs.declared.Extent.the-variants.{Ends, NoMark, Cut, LengthOver}
 use Rattle.records.proofs.Range.{cut-ends, unmarked-ends, over-ends, guarded, stays, field-ends, fields-end}
 use Rattle.views.specs.Fields.{deviceOf, elementOf, processDataOf, propertyOf, presentationOf}
-use Rattle.pool.specs.Reading.{Entry}
-use Rattle.pool.proofs.Steps.{Remaining, Next, next-of, none-left}
-use Rattle.naming.specs.Records.{startAt, kindAt}
 use Rattle.device.specs.Queries.{textIn}
 
 -- a whole record of a kind stands at a place
@@ -28,33 +24,6 @@ pub record Stands (p : List ℕ) (at kind : ℕ) : Type 0 where
   pub end : ℕ
   pub ends : extentOf p at ≡ Ends end
   pub marked : kind ≡ markNumber (markOf (three p at))
-
--- every record that is left from a place on stands where the walk says
-pub left-stand : (p : List ℕ) (es : List Entry) (at : ℕ) → Remaining p at es → (i : ℕ) → i < length es → Stands p (startAt es i) (kindAt es i)
-left-stand p [] at r i h = absurd (omega arith)
-left-stand p (e ∷ es) at r i h = go (decLt at (length p)) (left-stand p es) i h
-  where
-    go : Dec (at < length p) → ((at′ : ℕ) → Remaining p at′ es → (i : ℕ) → i < length es → Stands p (startAt es i) (kindAt es i)) → (i : ℕ)
-        → i < length (e ∷ es) → Stands p (startAt (e ∷ es) i) (kindAt (e ∷ es) i)
-    go (no l) ih i h = absurd (nothing (none-left p at (e ∷ es) (omega arith) r))
-      where
-        nothing : _≡_ {A = List Entry} (e ∷ es) [] → ⊥
-        nothing q = let z : suc (length es) ≡ 0 = ap length q in omega arith
-    go (yes l) ih zero h = head (next-of p at (e ∷ es) l r)
-      where
-        head : Next p at (e ∷ es) → Stands p (e .start) (e .kind)
-        head n =
-            let s : e .start ≡ at = ap (λ (xs : List Entry). startAt xs 0) (n .first) in
-            let m : e .kind ≡ markNumber (markOf (three p at)) = ap (λ (xs : List Entry). kindAt xs 0) (n .first) in
-            rw s (record { end = n .end; ends = n .ends; marked = m })
-    go (yes l) ih (suc i) h = rest (next-of p at (e ∷ es) l r)
-      where
-        tail : List Entry → List Entry
-        tail [] = []
-        tail (x ∷ xs) = xs
-
-        rest : Next p at (e ∷ es) → Stands p (startAt es i) (kindAt es i)
-        rest n = ih (n .end) (subst (Remaining p (n .end)) (sym (ap tail (n .first))) (n .rest)) i (omega arith)
 
 -- the length byte of a record's last field, a text, keeps its limit
 last-limit : (fs : List Field) (limit : ℕ) (p : List ℕ) (at e : ℕ) → fieldsEnd (fs ++ text limit ∷ []) p (Ends at) ≡ Ends e → getD p (behindAll fs p at) 0 ≤ limit

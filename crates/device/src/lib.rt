@@ -3,14 +3,13 @@
 use checker::Verdict;
 use records::Span;
 ghost use mathlib.Core.Path.{_≡_};
-ghost use Prim.Native.Nat.{_*_, _≤_, _<_};
+ghost use Prim.Native.Nat.{_≤_};
 ghost use lib.ListN.{length};
 ghost use Rattle.views.specs.Fields.{partOf, deviceOf};
-ghost use Rattle.pool.specs.Reading.{width};
-ghost use Rattle.naming.specs.Naming.{firstOf};
+ghost use Rattle.pool.specs.Walk.{entriesOf, Divided};
 ghost use Rattle.checker.specs.Checking.{verdictOf};
-ghost use Rattle.device.specs.Queries.{refusalIn, textIn, Finds, Labelled};
-ghost use Rattle.device.specs.Parts.{columnIn, CheckedRows, LabelledBy};
+ghost use Rattle.device.specs.Queries.{refusalIn, textIn, carrier, Finds, Labelled};
+ghost use Rattle.device.specs.Parts.{FindsAmong, CheckedBy, LabelledBy};
 
 // Where a text stands in the pool, or the number of a refusal with zeros.
 pub struct Place {
@@ -43,14 +42,15 @@ pub fn refusal(verdict: Verdict) -> u32
     0
 }
 
-// The number, from 1, of the first record that has x in a column of the table, 0 for none. Column 2 is the kind, 3 the ID.
-fn first_with(table: &[u16], count: usize, column: usize, x: u16) -> u16
-    requires { ⌜ (count * width ≤ length (now table)) × (count ≤ 8192) × (column < width) ⌝ }
-    ensures { λ r. ⌜ r ≡ firstOf (columnIn (now (table .entry)) column) x count ⌝ }
+// The number, from 1, of the first record with an ID, 0 for none.
+fn first_with(p: &[u8], starts: &[u16], id: u16) -> u16
+    requires { ⌜ Divided (now p) (now starts) ⌝ }
+    ensures { λ r. ⌜ r ≡ carrier (entriesOf (now (p .entry)) (now (starts .entry))) id ⌝ }
 {
+    let count = starts.len() - 1;
     let mut i: usize = 0;
     while i < count {
-        if table[i * 4 + column] == x {
+        if records::view::id(p, starts[i]) == id {
             return (i + 1) as u16;
         }
         i += 1;
@@ -80,10 +80,32 @@ fn text_in(p: &[u8], kind: u16, at: u16) -> Span
     Span { from: 0, to: 0 }
 }
 
-// Finds a text in a pool that has been checked, by the rows that the check has listed the records in: its place lies within the
-// pool, also where it is empty. No entry point, so it may ask that the verdict and the rows are the pool's.
-pub fn find_in(p: &[u8], room: usize, rows: &[u16], verdict: Verdict, id: u16) -> Place
-    requires { ⌜ CheckedRows (now p) room (now rows) verdict ⌝ }
+// Finds a text among the records of a pool: its place lies within the pool, also where it is empty.
+fn find_among(p: &[u8], starts: &[u16], id: u16) -> Place
+    requires { ⌜ Divided (now p) (now starts) ⌝ }
+    ensures { λ r. ⌜ FindsAmong (now (p .entry)) (entriesOf (now (p .entry)) (now (starts .entry))) id r ⌝ }
+{
+    let number = first_with(p, starts, id) as usize;
+    if number == 0 {
+        return Place {
+            number: 28,
+            from: 0,
+            to: 0,
+        };
+    }
+    let at = starts[number - 1];
+    let text = text_in(p, records::view::kind(p, at), at);
+    Place {
+        number: 0,
+        from: text.from,
+        to: text.to,
+    }
+}
+
+// Finds a text in a pool that has been checked, by the list that the check has listed the records in. No entry point, so it may ask
+// that the verdict and the list are the pool's.
+pub fn find_in(p: &[u8], room: usize, starts: &[u16], verdict: Verdict, id: u16) -> Place
+    requires { ⌜ CheckedBy (now p) room (now starts) verdict ⌝ }
     ensures { λ r. ⌜ Finds (now (p .entry)) room id r ⌝ }
 {
     let number = refusal(verdict);
@@ -94,21 +116,8 @@ pub fn find_in(p: &[u8], room: usize, rows: &[u16], verdict: Verdict, id: u16) -
             to: 0,
         };
     }
-    let record = first_with(rows, checker::records_of(verdict), 3, id) as usize;
-    if record == 0 {
-        return Place {
-            number: 28,
-            from: 0,
-            to: 0,
-        };
-    }
-    let entry = (record - 1) * 4;
-    let text = text_in(p, rows[entry + 2], rows[entry]);
-    Place {
-        number: 0,
-        from: text.from,
-        to: text.to,
-    }
+    let end = checker::records_of(verdict) + 1;
+    find_among(p, &starts[..end], id)
 }
 
 // A text that was looked for, as a slice of the pool that was lent. The number tells a refusal from a text without bytes.
@@ -143,10 +152,10 @@ fn labels_at(p: &[u8], at: u16) -> DeviceLabels
     }
 }
 
-// The labels by the rows that the check has listed the records in, as for a text: by value, with the count of the extended label's
+// The labels by the list that the check has listed the records in, as for a text: by value, with the count of the extended label's
 // bytes. An accepted pool has a device, so no test looks for its absence.
-pub fn labels_in(p: &[u8], room: usize, rows: &[u16], verdict: Verdict) -> DeviceLabels
-    requires { ⌜ CheckedRows (now p) room (now rows) verdict ⌝ }
+pub fn labels_in(p: &[u8], room: usize, starts: &[u16], verdict: Verdict) -> DeviceLabels
+    requires { ⌜ CheckedBy (now p) room (now starts) verdict ⌝ }
     ensures { λ r. ⌜ Labelled (now (p .entry)) room r ⌝ }
 {
     let number = refusal(verdict);
@@ -159,6 +168,7 @@ pub fn labels_in(p: &[u8], room: usize, rows: &[u16], verdict: Verdict) -> Devic
             extended_length: 0,
         };
     }
-    let record = first_with(rows, checker::records_of(verdict), 2, 1) as usize;
-    labels_at(p, rows[(record - 1) * 4])
+    let end = checker::records_of(verdict) + 1;
+    let device = fields::whole::first_device(p, &starts[..end]) as usize;
+    labels_at(p, starts[device - 1])
 }

@@ -1,4 +1,3 @@
 -- What belongs to no one function.
-pub mod Lists
 pub mod Finding
 pub mod Labelling

@@ -1,91 +1,50 @@
--- What looking at the table and the list by ID finds among the records that the table shows. Assumes nothing.
-use mathlib.Core.Path.{_≡_, refl, sym, ap, subst, _∙_}
+-- What looking among the records of a pool finds. Assumes nothing.
+use mathlib.Core.Path.{_≡_, refl, sym, ap, _∙_}
 use mathlib.Core.List.{List}
-use Prim.Native.Nat.{ℕ, zero, suc, _-_, _*_, _≤_, _<_}
+use Prim.Native.Nat.{ℕ, zero, suc, _-_, _≤_, _<_}
 use native.Mathlib.Omega.{arith}
 use lib.ListN.{length, getD}
 use Rattle.views.specs.Fields.{elementOf, entryOf}
-use Rattle.pool.specs.Reading.{Entry}
-use Rattle.naming.specs.Records.{idAt}
-use Rattle.naming.specs.Naming.{firstOf, numberKey, named, kindOf, tagOf}
-use Rattle.naming.specs.Lists.{shown, kindIn, tagIn, Indexed}
-use Rattle.naming.specs.Steps.{numberIn}
-use Rattle.naming.proofs.First.{Without, to-none, to-first, first-le, first-ext}
-use Rattle.naming.proofs.Shown.{shown-long, shown-kind}
-use Rattle.naming.proofs.Climb.{named-le}
-use Rattle.naming.proofs.Tabled.{starts, kinds, names, within, tag-is}
+use Rattle.pool.specs.Walk.{entriesOf}
+use Rattle.pool.proofs.Starts.{entries-long}
+use Rattle.naming.specs.Naming.{firstOf, numberKey, named, tagOf}
+use Rattle.naming.proofs.First.{Without, to-none, to-first, first-le}
+use Rattle.naming.proofs.Starts.{start-read, named-listed}
 use Rattle.device.specs.Queries.{startOf}
 use Rattle.judging.specs.Judging.{elementFor, entryFor, namedBy, objectFor}
-use Rattle.judging.specs.Parts.{startIn, entryIn, namedFrom, objectIn, ObjectIf}
-use Rattle.judging.specs.declared.Sought.{Sought}
-use Rattle.judging.specs.declared.Sought.the-variants.{Object}
 
-pub start-in : (table : List ℕ) (number : ℕ) → (number ≡ 0 → ⊥) → getD table ((number - 1) * 4) 0 ≡ startIn table number
-start-in table zero h = absurd (h refl)
-start-in table (suc i) h = let e : suc i - 1 ≡ i = omega arith in rw e
+module _ (p starts : List ℕ) where
+  -- the tag of what entry m of a list names
+  abbrev pub tagNamed : ℕ → ℕ → ℕ
+  tagNamed at m = tagOf p (entriesOf p starts) (named (entriesOf p starts) (entryOf p at m))
 
--- ---- the walk over a list: the entry that is found, and that there is none
-
-module _ (entry tag : ℕ → ℕ) (x n : ℕ) where
-  pub entry-found : (r m : ℕ) → m < n → Without tag x m → tag m ≡ x → r ≡ entry m → r ≡ namedFrom entry (firstOf tag x n)
-  entry-found r m h w e q = q ∙ sym (ap (namedFrom entry) (to-first tag x n m h e w))
-
-  pub entry-none : (m : ℕ) → n ≤ m → Without tag x m → 0 ≡ namedFrom entry (firstOf tag x n)
-  entry-none m h w = sym (ap (namedFrom entry) (to-none tag x n (λ (j : ℕ) (l : j < n). w j (omega arith))))
-
--- ---- from the table's words to the records
-
-module _ (p table : List ℕ) (count : ℕ) where
-  pub element-shown : (r element : ℕ) → r ≡ firstOf (numberIn p table) element count → r ≡ elementFor p (shown table count) element
-  unfolding elementFor
-  element-shown r element e =
-      e
-      ∙ first-ext (numberIn p table) (numberKey p (shown table count)) element count (λ (i : ℕ) (h : i < count). rw (kinds table count i h, starts table count i h))
-      ∙ rw (shown-long table count)
-
-  pub element-below : (element : ℕ) → elementFor p (shown table count) element ≤ count
-  unfolding elementFor
-  element-below element = omega (arith, first-le (numberKey p (shown table count)) element (length (shown table count)), shown-long table count)
-
-  pub start-shown : (r : ℕ) → r ≤ count → startIn table r ≡ startOf (shown table count) r
-  start-shown zero h = refl
-  start-shown (suc i) h = starts table count i (omega arith)
-
-  pub kind-shown : (r : ℕ) → r ≤ count → kindIn table r ≡ kindOf (shown table count) r
-  kind-shown r h = sym (shown-kind table count r h)
-
-  pub object-below : (at ddi : ℕ) → objectFor p (shown table count) at ddi ≤ count
-  object-below at ddi = go (entryFor p (shown table count) at ddi)
-    where
-      go : (m : ℕ) → namedBy p (shown table count) at m ≤ count
-      go zero = omega arith
-      go (suc m) = omega (arith, named-le (shown table count) (entryOf p at m), shown-long table count)
-
-  pub object-shown : (index : List ℕ) → Indexed (idAt (shown table count)) count index → (at ddi size : ℕ) → size ≡ elementOf p at .entries
-      → (r : ℕ) → r ≡ objectIn p table index at size ddi → r ≡ objectFor p (shown table count) at ddi
+  -- the walk over a list: the entry that is found, and that there is none
+  pub object-here : (at ddi r m : ℕ) → m < elementOf p at .entries → Without (tagNamed at) (suc ddi) m → tagNamed at m ≡ suc ddi → r ≡ named (entriesOf p starts) (entryOf p at m)
+      → r ≡ objectFor p (entriesOf p starts) at ddi
   unfolding entryFor
-  object-shown index listed at ddi size e r is =
-      is
-      ∙ rw e
-      (ap (namedFrom (entryIn p index at))
-      (first-ext (λ (m : ℕ). tagIn p table (entryIn p index at m)) tag (suc ddi) (elementOf p at .entries) (λ (m : ℕ) (h : m < elementOf p at .entries). same m))
-      ∙ go (firstOf tag (suc ddi) (elementOf p at .entries)))
-    where
-      tag : ℕ → ℕ
-      tag m = tagOf p (shown table count) (named (shown table count) (entryOf p at m))
+  object-here at ddi r m h w e q =
+      q ∙ sym (ap (namedBy p (entriesOf p starts) at) (to-first (tagNamed at) (suc ddi) (elementOf p at .entries) m h e w))
 
-      looked : (m : ℕ) → entryIn p index at m ≡ named (shown table count) (entryOf p at m)
-      looked m = names table count index listed (entryOf p at m)
+  pub object-none : (at ddi m : ℕ) → elementOf p at .entries ≤ m → Without (tagNamed at) (suc ddi) m → 0 ≡ objectFor p (entriesOf p starts) at ddi
+  unfolding entryFor
+  object-none at ddi m h w =
+      sym (ap (namedBy p (entriesOf p starts) at) (to-none (tagNamed at) (suc ddi) (elementOf p at .entries) (λ (j : ℕ) (l : j < elementOf p at .entries). w j (omega arith))))
 
-      same : (m : ℕ) → tagIn p table (entryIn p index at m) ≡ tagOf p (shown table count) (named (shown table count) (entryOf p at m))
-      same m =
-          ap (tagIn p table) (looked m)
-          ∙ tag-is table count index listed p (named (shown table count) (entryOf p at m)) (within table count index listed (entryOf p at m))
+  -- what is found is listed
+  module _ (some : 0 < length starts) where
+    pub element-listed : (element : ℕ) → elementFor p (entriesOf p starts) element < length starts
+    unfolding elementFor
+    element-listed element =
+        omega (arith, first-le (numberKey p (entriesOf p starts)) element (length (entriesOf p starts)), entries-long p starts)
 
-      go : (m : ℕ) → namedFrom (entryIn p index at) m ≡ namedBy p (shown table count) at m
-      go zero = refl
-      go (suc m) = looked m
+    pub object-listed : (at ddi : ℕ) → objectFor p (entriesOf p starts) at ddi < length starts
+    object-listed at ddi = go (entryFor p (entriesOf p starts) at ddi)
+      where
+        go : (m : ℕ) → namedBy p (entriesOf p starts) at m < length starts
+        go zero = omega arith
+        go (suc m) = named-listed p starts (entryOf p at m) some
 
--- what was looked for with a list that was long enough
-pub object-sought : (p : List ℕ) (es : List Entry) (at ddi : ℕ) (t : Sought) → ObjectIf p es at ddi t → (number : ℕ) → t ≡ Object number → number ≡ objectFor p es at ddi
-object-sought p es at ddi t said number e = subst (ObjectIf p es at ddi) e said
+  -- where the record with a number starts
+  pub start-of : (number : ℕ) → (number ≡ 0 → ⊥) → number < length starts → getD starts (number - 1) 0 ≡ startOf (entriesOf p starts) number
+  start-of zero some l = absurd (some refl)
+  start-of (suc i) some l = let e : suc i - 1 ≡ i = omega arith in rw e (start-read p starts i l)

@@ -1,4 +1,5 @@
 -- What belongs to no one function.
 pub mod Found
 pub mod Erring
+pub mod Verdict
 pub mod Unique

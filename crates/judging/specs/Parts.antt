@@ -1,34 +1,22 @@
--- What private functions read off the table and the list by ID: no public contract rests on these. Definitions only.
-use Prim.Native.Nat.{ℕ, zero, suc, _*_}
+-- For the contracts of functions inside: no contract of a call rests on these. Definitions only.
+use Prim.Native.Nat.{ℕ}
 use mathlib.Core.Path.{_≡_}
+use mathlib.Core.Bool.{cond}
 use mathlib.Core.List.{List}
-use lib.ListN.{getD}
-use Rattle.views.specs.Fields.{entryOf}
-use Rattle.pool.specs.Reading.{Entry, width}
-use Rattle.naming.specs.Naming.{firstOf}
-use Rattle.naming.specs.Lists.{tagIn, namedIn}
-use Rattle.judging.specs.Judging.{objectFor}
-use Rattle.judging.specs.declared.Sought.{Sought}
-use Rattle.judging.specs.declared.Sought.the-variants.{Object, Short}
+use lib.Dec.{eqb, ltb}
+use lib.IntN.{ℤ}
+use lib.ListN.{length}
+use Rattle.pool.specs.Reading.{Entry}
+use Rattle.rules.specs.Table.{breachesIn}
+use Rattle.checker.specs.Checking.{countOf}
+use Rattle.judging.specs.Judging.{errorOf}
+use Rattle.judging.specs.declared.Judgement.{Judgement}
 
--- where the record with a number from 1 starts, by the table
-abbrev pub startIn : List ℕ → ℕ → ℕ
-startIn table zero = 0
-startIn table (suc i) = getD table (i * width) 0
+-- a judgement by the records of a pool: 24 where the pool has a fault
+pub record JudgedAmong (p : List ℕ) (es : List Entry) (command element ddi : ℕ) (value : ℤ) (r : Judgement) : Type 0 where
+  pub number : r .number ≡ cond (eqb (length (breachesIn p es)) 0) 0 24
+  pub error : r .error ≡ cond (eqb (length (breachesIn p es)) 0) (errorOf p es command element ddi value) 0
 
--- the number of the record that entry m of a list names, and the first of its first size entries with a DDI
-abbrev pub entryIn : List ℕ → List ℕ → ℕ → ℕ → ℕ
-entryIn p index at m = namedIn index (entryOf p at m)
-
-abbrev pub namedFrom : (ℕ → ℕ) → ℕ → ℕ
-namedFrom entry zero = 0
-namedFrom entry (suc m) = entry m
-
-abbrev pub objectIn : List ℕ → List ℕ → List ℕ → ℕ → ℕ → ℕ → ℕ
-objectIn p table index at size ddi =
-    namedFrom (entryIn p index at) (firstOf (λ (m : ℕ). tagIn p table (entryIn p index at m)) (suc ddi) size)
-
--- where the list was long enough, the object of a DDI
-abbrev pub ObjectIf : List ℕ → List Entry → ℕ → ℕ → Sought → Type 0
-ObjectIf p es at ddi (Object number) = number ≡ objectFor p es at ddi
-ObjectIf p es at ddi Short = Unit {0}
+-- how many records there are for the table when a command is judged: none for 32, since the pool is not looked at
+unfoldable pub judgedCount : List ℕ → ℕ → ℕ → ℕ
+judgedCount p room element = cond (ltb 4095 element) 0 (countOf p room)

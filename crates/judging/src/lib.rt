@@ -1,19 +1,17 @@
 // Judging a command to the device: one error byte over an accepted pool.
-use checker::Verdict;
+use pool::Outcome;
 ghost use mathlib.Core.Path.{_≡_};
 ghost use mathlib.Core.Bool.{cond};
-ghost use Prim.Native.Nat.{suc, _*_, _≤_};
+ghost use Prim.Native.Nat.{_*_, _≤_};
 ghost use lib.Dec.{eqb};
 ghost use lib.ListN.{length};
 ghost use Rattle.views.specs.Fields.{elementOf};
-ghost use Rattle.pool.specs.Reading.{width};
-ghost use Rattle.naming.specs.Naming.{firstOf};
-ghost use Rattle.naming.specs.Lists.{shown};
-ghost use Rattle.naming.specs.Steps.{numberIn};
-ghost use Rattle.judging.specs.Judging.{propertiesIn, triggersIn, objectFor, lacksSetting, lacksTrigger, lacksInterval, objectError, errorOf, judgeNumber, judgeError};
+ghost use Rattle.pool.specs.Walk.{entriesOf, Divided, Reaches, Listed};
+ghost use Rattle.naming.specs.Lists.{Blank};
+ghost use Rattle.naming.specs.Chained.{Names};
+ghost use Rattle.judging.specs.Judging.{elementFor, objectFor, propertiesIn, triggersIn, lacksSetting, lacksTrigger, lacksInterval, objectError, errorOf, judgeNumber, judgeError};
 ghost use Rattle.judging.specs.One.{AcceptedNamesOne};
-ghost use Rattle.device.specs.Parts.{CheckedRows};
-ghost use Rattle.judging.specs.Parts.{startIn, objectIn, ObjectIf};
+ghost use Rattle.judging.specs.Parts.{JudgedAmong, judgedCount};
 
 // Number 0 and the error byte, or a refusal's number and 0.
 pub struct Judgement {
@@ -21,30 +19,23 @@ pub struct Judgement {
     pub error: u8,
 }
 
+// A judgement, beside how many records there are for the table.
+pub struct Judged {
+    pub records: usize,
+    pub judgement: Judgement,
+}
+
+fn judgement_of(records: usize, number: u32, error: u8) -> Judged
+    ensures { λ r. ⌜ (r .records ≡ records) × (r .judgement .number ≡ number) × (r .judgement .error ≡ error) ⌝ }
+{
+    let judgement = Judgement { number, error };
+    Judged { records, judgement }
+}
+
 // What process data allows, by its bits.
 struct Bits {
     properties: u8,
     triggers: u8,
-}
-
-// What is looked for with a list of some length: an object's number, 0 for none, or that the list is too short for an ID.
-enum Sought {
-    Object(u16),
-    Short,
-}
-
-// Where the record with a number from 1 starts, by the table; 0 for none.
-fn start_at(table: &[u16], number: u16) -> u16
-    ensures { λ r. ⌜ r ≡ startIn (now (table .entry)) number ⌝ }
-{
-    if number == 0 {
-        return 0;
-    }
-    let at = (number as usize - 1) * 4;
-    if at < table.len() {
-        return table[at];
-    }
-    0
 }
 
 // Whether a record is the device element with an element number.
@@ -58,13 +49,15 @@ fn is_numbered(p: &[u8], at: u16, kind: u16, element: u16) -> bool
 }
 
 // The number, from 1, of the first device element with an element number, 0 for none.
-fn find_element(p: &[u8], table: &[u16], count: usize, element: u16) -> u16
-    requires { ⌜ (count * width ≤ length (now table)) × (count ≤ 8192) ⌝ }
-    ensures { λ r. ⌜ r ≡ firstOf (numberIn (now (p .entry)) (now (table .entry))) element count ⌝ }
+fn find_element(p: &[u8], starts: &[u16], element: u16) -> u16
+    requires { ⌜ Divided (now p) (now starts) ⌝ }
+    ensures { λ r. ⌜ r ≡ elementFor (now (p .entry)) (entriesOf (now (p .entry)) (now (starts .entry))) element ⌝ }
 {
+    let count = starts.len() - 1;
     let mut i: usize = 0;
     while i < count {
-        if is_numbered(p, table[i * 4], table[i * 4 + 2], element) {
+        let at = starts[i];
+        if is_numbered(p, at, records::view::kind(p, at), element) {
             return (i + 1) as u16;
         }
         i += 1;
@@ -72,74 +65,23 @@ fn find_element(p: &[u8], table: &[u16], count: usize, element: u16) -> u16
     0
 }
 
-// The number of the record that the first entry with a DDI names, 0 for none.
-fn find_entry(p: &[u8], table: &[u16], index: &[u16], at: u16, size: u16, ddi: u16) -> u16
-    ensures { λ r. ⌜ r ≡ objectIn (now (p .entry)) (now (table .entry)) (now (index .entry)) at size ddi ⌝ }
+// The number of the record that the first entry with a DDI names, in the list of the device element that starts at a place; 0 for
+// none.
+fn find_object(p: &[u8], starts: &[u16], heads: &[u16], next: &[u16], at: u16, ddi: u16) -> u16
+    requires { ⌜ Names (now p) (now starts) (now heads) (now next) ⌝ }
+    ensures { λ r. ⌜ r ≡ objectFor (now (p .entry)) (entriesOf (now (p .entry)) (now (starts .entry))) at ddi ⌝ }
 {
+    let element = views::device_element(p, at);
+    let size = element.entries;
     let mut m: u16 = 0;
     while m < size {
-        let named = naming::named_at(index, views::entry(p, at, m));
-        if elements::tag_at(p, table, named) == ddi as usize + 1 {
+        let named = naming::named_at(p, starts, heads, next, views::entry(p, at, m));
+        if elements::tag_at(p, starts, named) == ddi as usize + 1 {
             return named;
         }
         m += 1;
     }
     0
-}
-
-// The number of the object of a DDI in the list of the device element that starts at a place, 0 for none. The records are
-// listed by ID once, so that each entry is looked up in one step; the list is as short as the IDs allow, since clearing a long
-// one would take most of the time. For a pool of usual length with IDs from the first on.
-fn find_short(p: &[u8], table: &[u16], count: usize, at: u16, ddi: u16) -> Sought
-    requires { ⌜ (count * width ≤ length (now table)) × (count ≤ 8192) ⌝ }
-    ensures { λ r. ⌜ ObjectIf (now (p .entry)) (shown (now (table .entry)) count) at ddi r ⌝ }
-{
-    let mut index = [0u16; 512];
-    if !naming::index_ids(table, count, &mut index) {
-        return Sought::Short;
-    }
-    let element = views::device_element(p, at);
-    Sought::Object(find_entry(p, table, &index, at, element.entries, ddi))
-}
-
-// For a pool of any length with IDs from the first on.
-fn find_middle(p: &[u8], table: &[u16], count: usize, at: u16, ddi: u16) -> Sought
-    requires { ⌜ (count * width ≤ length (now table)) × (count ≤ 8192) ⌝ }
-    ensures { λ r. ⌜ ObjectIf (now (p .entry)) (shown (now (table .entry)) count) at ddi r ⌝ }
-{
-    let mut index = [0u16; 8192];
-    if !naming::index_ids(table, count, &mut index) {
-        return Sought::Short;
-    }
-    let element = views::device_element(p, at);
-    Sought::Object(find_entry(p, table, &index, at, element.entries, ddi))
-}
-
-// For every ID.
-fn find_long(p: &[u8], table: &[u16], count: usize, at: u16, ddi: u16) -> u16
-    requires { ⌜ (count * width ≤ length (now table)) × (count ≤ 8192) ⌝ }
-    ensures { λ r. ⌜ r ≡ objectFor (now (p .entry)) (shown (now (table .entry)) count) at ddi ⌝ }
-{
-    let mut index = [0u16; 65536];
-    naming::index_ids(table, count, &mut index);
-    let element = views::device_element(p, at);
-    find_entry(p, table, &index, at, element.entries, ddi)
-}
-
-// The same, by the first of these lists that has a place for every ID.
-fn find_object(p: &[u8], table: &[u16], count: usize, at: u16, ddi: u16) -> u16
-    requires { ⌜ (count * width ≤ length (now table)) × (count ≤ 8192) ⌝ }
-    ensures { λ r. ⌜ r ≡ objectFor (now (p .entry)) (shown (now (table .entry)) count) at ddi ⌝ }
-{
-    let short = find_short(p, table, count, at, ddi);
-    if let Sought::Object(number) = short {
-        return number;
-    }
-    let middle = find_middle(p, table, count, at, ddi);
-    if let Sought::Object(number) = middle {
-        return number;
-    }
-    find_long(p, table, count, at, ddi)
 }
 
 // The bits of an object: a property has none.
@@ -199,58 +141,169 @@ fn object_error(properties: u8, triggers: u8, command: u8, value: i32) -> u8
     0
 }
 
-// The error byte over a pool that has been read into a table.
+// The error byte over the records of a pool.
 fn error_in(
     p: &[u8],
-    table: &[u16],
-    count: usize,
+    starts: &[u16],
+    heads: &[u16],
+    next: &[u16],
     command: u8,
     element: u16,
     ddi: u16,
     value: i32,
 ) -> u8
-    requires { ⌜ (count * width ≤ length (now table)) × (count ≤ 8192) ⌝ }
-    ensures { λ r. ⌜ r ≡ errorOf (now (p .entry)) (shown (now (table .entry)) count) command element ddi value ⌝ }
+    requires { ⌜ Names (now p) (now starts) (now heads) (now next) ⌝ }
+    ensures { λ r. ⌜ r ≡ errorOf (now (p .entry)) (entriesOf (now (p .entry)) (now (starts .entry))) command element ddi value ⌝ }
 {
     if !messages::carries_value(command) {
         return 0x01;
     }
-    let number = find_element(p, table, count, element);
+    let number = find_element(p, starts, element) as usize;
     if number == 0 {
         return 0x02;
     }
-    let object = find_object(p, table, count, start_at(table, number), ddi);
+    let object = find_object(p, starts, heads, next, starts[number - 1], ddi) as usize;
     if object == 0 {
         return 0x04;
     }
-    let bits = bits_of(p, naming::kind_at(table, object), start_at(table, object));
+    let at = starts[object - 1];
+    let bits = bits_of(p, records::view::kind(p, at), at);
     object_error(bits.properties, bits.triggers, command, value)
 }
 
-// Judges a command to an element that there may be, over a pool that has been checked, by the rows that the check has listed the
-// records in. No entry point, so it may ask that the verdict and the rows are the pool's.
-pub fn judge_in(
+// Judges by the records of a pool, whose IDs have been listed: a pool with a fault is not judged. Of the faults only the count
+// matters, so the buffer for them has room for one.
+fn judge_named(
     p: &[u8],
-    room: usize,
-    rows: &[u16],
-    verdict: Verdict,
+    starts: &[u16],
+    heads: &[u16],
+    next: &[u16],
+    again: &mut [u8],
+    endless: &mut [u8],
     command: u8,
     element: u16,
     ddi: u16,
     value: i32,
 ) -> Judgement
-    requires { ⌜ (element ≤ 4095) × CheckedRows (now p) room (now rows) verdict ⌝ }
-    ensures { λ r. ⌜ (r .number ≡ judgeNumber (now (p .entry)) room element) × (r .error ≡ judgeError (now (p .entry)) room command element ddi value) ⌝ }
+    requires { ⌜ Names (now p) (now starts) (now heads) (now next) × Blank (now again) × Blank (now endless) × (length (now starts) ≤ 8 * length (now again)) × (length (now starts) ≤ 8 * length (now endless)) ⌝ }
+    ensures { λ r. ⌜ JudgedAmong (now (p .entry)) (entriesOf (now (p .entry)) (now (starts .entry))) command element ddi value r ⌝ }
 {
-    let number = device::refusal(verdict);
-    if number != 0 {
-        return Judgement { number, error: 0 };
+    let mut first = [0u16; 3];
+    if counting::put_all(p, starts, heads, next, again, endless, &mut first) != 0 {
+        return Judgement {
+            number: 24,
+            error: 0,
+        };
     }
-    let count = checker::records_of(verdict);
     Judgement {
         number: 0,
-        error: error_in(p, rows, count, command, element, ddi, value),
+        error: error_in(p, starts, heads, next, command, element, ddi, value),
     }
+}
+
+// By lists for a pool of up to 1,024 records, and for every pool: those of a check, so that the IDs are listed once.
+fn judge_short(
+    p: &[u8],
+    starts: &[u16],
+    command: u8,
+    element: u16,
+    ddi: u16,
+    value: i32,
+) -> Judgement
+    requires { ⌜ Divided (now p) (now starts) × (length (now starts) ≤ 1025) ⌝ }
+    ensures { λ r. ⌜ JudgedAmong (now (p .entry)) (entriesOf (now (p .entry)) (now (starts .entry))) command element ddi value r ⌝ }
+{
+    let mut heads = [0u16; 509];
+    let mut next = [0u16; 1025];
+    naming::name_ids(p, starts, &mut heads, &mut next);
+    let mut again = [0u8; 129];
+    let mut endless = [0u8; 129];
+    judge_named(
+        p,
+        starts,
+        &heads,
+        &next,
+        &mut again,
+        &mut endless,
+        command,
+        element,
+        ddi,
+        value,
+    )
+}
+
+fn judge_long(
+    p: &[u8],
+    starts: &[u16],
+    command: u8,
+    element: u16,
+    ddi: u16,
+    value: i32,
+) -> Judgement
+    requires { ⌜ Divided (now p) (now starts) ⌝ }
+    ensures { λ r. ⌜ JudgedAmong (now (p .entry)) (entriesOf (now (p .entry)) (now (starts .entry))) command element ddi value r ⌝ }
+{
+    let mut heads = [0u16; 2039];
+    let mut next = [0u16; 5462];
+    naming::name_ids(p, starts, &mut heads, &mut next);
+    let mut again = [0u8; 684];
+    let mut endless = [0u8; 684];
+    judge_named(
+        p,
+        starts,
+        &heads,
+        &next,
+        &mut again,
+        &mut endless,
+        command,
+        element,
+        ddi,
+        value,
+    )
+}
+
+// Judges by the records of a pool.
+fn judge_among(
+    p: &[u8],
+    starts: &[u16],
+    command: u8,
+    element: u16,
+    ddi: u16,
+    value: i32,
+) -> Judgement
+    requires { ⌜ Divided (now p) (now starts) ⌝ }
+    ensures { λ r. ⌜ JudgedAmong (now (p .entry)) (entriesOf (now (p .entry)) (now (starts .entry))) command element ddi value r ⌝ }
+{
+    if starts.len() <= 1025 {
+        return judge_short(p, starts, command, element, ddi, value);
+    }
+    judge_long(p, starts, command, element, ddi, value)
+}
+
+// Judges a command for a table of so many entries, by a list that reaches for every record of the pool. For an element number over 4,095
+// the pool is not looked at, and there is nothing for the table.
+pub fn judge_by(
+    p: &[u8],
+    room: usize,
+    starts: &mut [u16],
+    command: u8,
+    element: u16,
+    ddi: u16,
+    value: i32,
+) -> Judged
+    requires { ⌜ Reaches (now starts) (now p) ⌝ }
+    ensures { λ r. ⌜ (r .judgement .number ≡ judgeNumber (now (p .entry)) room element) × (r .judgement .error ≡ judgeError (now (p .entry)) room command element ddi value) × (r .records ≡ judgedCount (now (p .entry)) room element) × (element ≤ 4095 → Listed (now (p .entry)) room (now (starts .exit))) ⌝ }
+{
+    if 4095 < element {
+        return judgement_of(0, 32, 0);
+    }
+    let outcome = pool::list_for(p, room, starts);
+    if let Outcome::Records(count) = outcome {
+        let end = count + 1;
+        let judgement = judge_among(p, &starts[..end], command, element, ddi, value);
+        return judgement_of(count, judgement.number, judgement.error);
+    }
+    judgement_of(0, pool::number_of(outcome), 0)
 }
 
 // An accepted pool has one element and one object for a command. The function does nothing: its contract is the claim, so that

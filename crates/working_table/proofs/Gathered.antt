@@ -1,145 +1,119 @@
--- A table gathered from rows of numbers: rows that start with the entries of a pool that is read give the table after reading it.
--- Assumes nothing.
+-- A table filled from a pool: a list of the records' starts gives the table after reading. Assumes nothing.
 use mathlib.Core.Path.{_≡_, refl, sym, ap, _∙_}
 use mathlib.Core.List.{List, [], _∷_, map}
-use Prim.Native.Nat.{ℕ, zero, suc, _+_, _*_, _/_, _≤_, _<_}
-use native.Mathlib.Nat.{not-suc-le-zero}
+use Prim.Native.Nat.{ℕ, zero, suc, _+_, _≤_, _<_}
+use native.Mathlib.Decide.{decLt}
 use native.Mathlib.Numerals.{add-one}
 use native.Mathlib.Omega.{arith}
 use borrow.Author.Tests.{lt-ltb, le-ltb, eq-eqb, ne-eqb}
-use lib.ListN.{length, getD, set, length-set}
-use lib.Seq.{sets, length-sets, getD-set-same, getD-set-other}
+use lib.ListN.{length, getD, set, take, length-set}
+use lib.Seq.{sets, getD-take, length-take-le}
 use Rattle.pool.specs.Answer.{Answer, answer, answerOf, recordsIn}
-use Rattle.pool.specs.Reading.{Entry, width, numbers, flat, scanOf, entriesIn, readOf}
-use Rattle.pool.specs.Walk.{ListsIf}
+use Rattle.pool.specs.Reading.{Entry, entryAt, Scan, records, scanOf, entriesIn, readOf}
+use Rattle.pool.specs.Walk.{entriesOf, Divided, Listed}
 use Rattle.pool.specs.declared.Outcome.{Outcome}
 use Rattle.pool.specs.declared.Outcome.the-variants.{Records, Empty, TooLong, NoMark, Cut, LengthOver, TooMany, TableShort}
-use Rattle.pool.proofs.Steps.{sets-entry, flat-long}
-use Rattle.pool.proofs.Judged.{read-counted, read-few}
+use Rattle.pool.proofs.Judged.{read-counted}
+use Rattle.pool.proofs.Starts.{entries-long, entry-at}
 use Rattle.working_table.specs.declared.Record.{Record}
 use Rattle.working_table.specs.Table.{recordOf, blank, recordsAfter}
 use Rattle.working_table.specs.Rows.{rowIn, gathered}
 
--- row i where the rows reach so far, and where they do not
-pub row-there : (rows : List ℕ) (i : ℕ) → i < length rows / 4
-    → rowIn rows i ≡ record { start = getD rows (i * 4) 0; length = getD rows (i * 4 + 1) 0; kind = getD rows (i * 4 + 2) 0; id = getD rows (i * 4 + 3) 0 }
+-- the entry of record i where the list reaches so far, and where it does not
+pub row-there : (p starts : List ℕ) (i : ℕ) → suc i < length starts → rowIn p starts i ≡ recordOf (entryAt p (getD starts i 0) (getD starts (suc i) 0))
 unfolding rowIn
-row-there rows i h = rw (lt-ltb i (length rows / 4) h)
+row-there p starts i h = rw (lt-ltb (suc i) (length starts) h)
 
-pub row-past : (rows : List ℕ) (i : ℕ) → length rows / 4 ≤ i → rowIn rows i ≡ blank
+pub row-past : (p starts : List ℕ) (i : ℕ) → length starts ≤ suc i → rowIn p starts i ≡ blank
 unfolding rowIn
-row-past rows i h = rw (le-ltb i (length rows / 4) h)
+row-past p starts i h = rw (le-ltb (suc i) (length starts) h)
 
-pub gathered-none : (rows : List ℕ) (table : List Record) → gathered rows 0 table ≡ table
+pub gathered-none : (p starts : List ℕ) (table : List Record) → gathered p starts 0 table ≡ table
 unfolding gathered
-gathered-none rows table = refl
+gathered-none p starts table = refl
 
-pub gathered-next : (rows : List ℕ) (n : ℕ) (table : List Record) → gathered rows (suc n) table ≡ set (gathered rows n table) n (rowIn rows n)
+pub gathered-next : (p starts : List ℕ) (n : ℕ) (table : List Record) → gathered p starts (suc n) table ≡ set (gathered p starts n table) n (rowIn p starts n)
 unfolding gathered
-gathered-next rows n table = refl
+gathered-next p starts n table = refl
 
-pub gathered-length : (rows : List ℕ) (n : ℕ) (table : List Record) → length (gathered rows n table) ≡ length table
+pub gathered-length : (p starts : List ℕ) (n : ℕ) (table : List Record) → length (gathered p starts n table) ≡ length table
 unfolding gathered
-gathered-length rows zero table = refl
-gathered-length rows (suc n) table = length-set (gathered rows n table) n (rowIn rows n) ∙ gathered-length rows n table
+gathered-length p starts zero table = refl
+gathered-length p starts (suc n) table = length-set (gathered p starts n table) n (rowIn p starts n) ∙ gathered-length p starts n table
 
--- what numbers that are laid over a list leave before them, and what stands where they are
-sets-before : (vs l : List ℕ) (i j : ℕ) → j < i → getD (sets l i vs) j 0 ≡ getD l j 0
-sets-before [] l i j h = refl
-sets-before (v ∷ vs) l i j h = sets-before vs (set l i v) (suc i) j (omega arith) ∙ getD-set-other l i j v 0 (λ (e : j ≡ i). omega arith)
+none : Entry
+none = entryAt [] 0 0
 
-sets-at : (vs l : List ℕ) (i k : ℕ) → i + length vs ≤ length l → k < length vs → getD (sets l i vs) (i + k) 0 ≡ getD vs k 0
-sets-at [] l i k fits h = absurd (not-suc-le-zero h)
-sets-at (v ∷ vs) l i zero fits h =
-    let here : i + 0 ≡ i = omega arith in
-    rw here (sets-before vs (set l i v) (suc i) i (omega arith) ∙ getD-set-same l i v 0 (omega arith))
-sets-at (v ∷ vs) l i (suc k) fits h =
-    let next : i + suc k ≡ suc i + k = omega arith in
-    let long = length-set l i v in
-    ap (λ (j : ℕ). getD (sets (set l i v) (suc i) vs) j 0) next ∙ sets-at vs (set l i v) (suc i) k (omega arith) (omega arith)
-
--- rows that hold entries from place i on have the first of them as row i
-row-laid : (rows : List ℕ) (i : ℕ) (e : Entry) (es : List Entry) → (i + length (e ∷ es)) * width ≤ length rows → rowIn (sets rows (i * width) (flat (e ∷ es))) i ≡ recordOf e
-row-laid rows i e es fits =
-    let laid = sets rows (i * width) (flat (e ∷ es)) in
-    let long = flat-long es in
-    let same : length laid ≡ length rows = length-sets rows (i * width) (flat (e ∷ es)) in
-    let within : i * width + length (flat (e ∷ es)) ≤ length rows = omega arith in
-    let first : i * width ≡ i * width + 0 = omega arith in
-    row-there laid i (omega arith)
-    ∙ rw (
-      ap (λ (k : ℕ). getD laid k 0) first ∙ sets-at (flat (e ∷ es)) rows (i * width) 0 within (omega arith),
-      sets-at (flat (e ∷ es)) rows (i * width) 1 within (omega arith),
-      sets-at (flat (e ∷ es)) rows (i * width) 2 within (omega arith),
-      sets-at (flat (e ∷ es)) rows (i * width) 3 within (omega arith),
-    )
-
--- so what they hold from there on is laid over the table
-gathers : (table : List Record) (es : List Entry) (rows : List ℕ) (i : ℕ) → (i + length es) * width ≤ length rows
-    → gathered (sets rows (i * width) (flat es)) (i + length es) table ≡ sets (gathered (sets rows (i * width) (flat es)) i table) i (map recordOf es)
-gathers table [] rows i fits = let none : i + 0 ≡ i = omega arith in ap (λ (k : ℕ). gathered rows k table) none
-gathers table (e ∷ es) rows i fits =
-    let laid = sets rows (i * width) (flat (e ∷ es)) in
-    let then = sets rows (i * width) (numbers e) in
-    let rest : laid ≡ sets then (suc i * width) (flat es) = sets-entry rows i e es ∙ ap (λ (k : ℕ). sets then (k * width) (flat es)) (add-one i) in
-    let long : length then ≡ length rows = length-sets rows (i * width) (numbers e) in
+-- records from place i on, whose entries the list gives, are laid over the table
+gathers : (p starts : List ℕ) (table : List Record) (es : List Entry) (i : ℕ) → ((k : ℕ) → k < length es → rowIn p starts (i + k) ≡ recordOf (getD es k none))
+    → gathered p starts (i + length es) table ≡ sets (gathered p starts i table) i (map recordOf es)
+gathers p starts table [] i rows = let same : i + 0 ≡ i = omega arith in ap (λ (k : ℕ). gathered p starts k table) same
+gathers p starts table (e ∷ es) i rows =
     let count : i + suc (length es) ≡ suc i + length es = omega arith in
-    let first : gathered laid (suc i) table ≡ set (gathered laid i table) i (recordOf e) = gathered-next laid i table ∙ ap (set (gathered laid i table) i) (row-laid rows i e es fits) in
-    ap (λ (k : ℕ). gathered laid k table) count
-    ∙ ap (λ (l : List ℕ). gathered l (suc i + length es) table) rest
-    ∙ gathers table es then (suc i) (omega arith)
-    ∙ ap (λ (l : List ℕ). sets (gathered l (suc i) table) (suc i) (map recordOf es)) (sym rest)
-    ∙ ap (λ (l : List Record). sets l (suc i) (map recordOf es)) first
+    let here : i + 0 ≡ i = omega arith in
+    let next : (k : ℕ) → k < length es → rowIn p starts (suc i + k) ≡ recordOf (getD es k none) =
+    λ k l. let later : suc i + k ≡ i + suc k = omega arith in ap (rowIn p starts) later ∙ rows (suc k) (omega arith) in
+    ap (λ (k : ℕ). gathered p starts k table) count
+    ∙ gathers p starts table es (suc i) next
+    ∙ ap (λ (l : List Record). sets l (suc i) (map recordOf es)) (gathered-next p starts i table ∙ ap (set (gathered p starts i table) i) (sym (ap (rowIn p starts) here) ∙ rows 0 (omega arith)))
 
--- as many rows as a pool can have records: each takes at least twelve bytes of it
-abbrev pub Enough : List ℕ → ℕ → Type 0
-Enough p long = (n : ℕ) → 12 * n ≤ length p → length p ≤ 65535 → n * width ≤ long
-
--- a pool that is read and was listed is gathered as reading fills the table
-pub gathered-after : (p before after : List ℕ) (n : ℕ) (table : List Record) → Enough p (length before) → answer 0 n ≡ readOf p (length table)
-    → ListsIf (readOf p (length table) .number) (scanOf p) before after → gathered after n table ≡ recordsAfter p table
-unfolding recordsAfter
-gathered-after p before after n table enough e lists =
-    let c = read-counted p (length table) n e in
-    let es = entriesIn (scanOf p) in
-    let read : readOf p (length table) .number ≡ 0 = sym (ap (λ (a : Answer). a .number) e) in
-    let most = enough n (read-few p (length table) n e) (c .short) in
-    let fits : length es * width ≤ length before = omega (arith, most, c .count) in
-    let count : n ≡ 0 + length es = omega (arith, c .count) in
-    let laid : after ≡ sets before 0 (flat es) = lists read es (c .scanned) fits in
-    rw (eq-eqb (readOf p (length table) .number) 0 read)
-    (ap (λ (l : List ℕ). gathered l n table) laid ∙ ap (λ (k : ℕ). gathered (sets before 0 (flat es)) k table) count ∙ gathers table es before 0 (omega arith) ∙ ap (λ (l : List Record). sets l 0 (map recordOf es)) (gathered-none (sets before 0 (flat es)) table))
-
--- the first n entries are gathered, of as many as the table has, and then it is the table after reading
-pub record Gathers (p rows : List ℕ) (n : ℕ) (table : List Record) : Type 0 where
+-- the first n entries are filled, of as many as the table has, and then it is the table after reading
+pub record Gathers (p starts : List ℕ) (n : ℕ) (table : List Record) : Type 0 where
   pub within : n ≤ length table
-  pub after : gathered rows n table ≡ recordsAfter p table
+  pub after : gathered p starts n table ≡ recordsAfter p table
 
--- a pool that is refused leaves the table as it was
-records-kept : (p : List ℕ) (table : List Record) → (readOf p (length table) .number ≡ 0 → ⊥) → recordsAfter p table ≡ table
-unfolding recordsAfter
-records-kept p table h = rw (ne-eqb (readOf p (length table) .number) 0 h)
+-- a list that divides the pool gives the entries that reading does
+laid : (p starts : List ℕ) (n : ℕ) (table : List Record) → n < length starts → Divided p (take (n + 1) starts) → gathered p starts n table ≡ sets table 0 (map recordOf (entriesIn (scanOf p)))
+laid p starts n table h d =
+    let t : List ℕ = take (n + 1) starts in
+    let es : List Entry = entriesOf p t in
+    let long : length t ≡ n + 1 = length-take-le (n + 1) starts (omega arith) in
+    let count : n ≡ 0 + length es = omega (arith, entries-long p t) in
+    ap (λ (k : ℕ). gathered p starts k table) count
+    ∙ gathers p starts table es 0 (λ k l. let here : 0 + k ≡ k = omega arith in ap (rowIn p starts) here ∙ row-there p starts k (omega (arith, entries-long p t))
+    ∙ sym (ap recordOf (entry-at p t none k (omega (arith, entries-long p t)) ∙ ap (λ (a : ℕ). entryAt p a (getD t (suc k) 0)) (getD-take (n + 1) starts k 0 (omega (arith, entries-long p t))) ∙ ap (entryAt p (getD starts k 0)) (getD-take (n + 1) starts (suc k) 0 (omega (arith, entries-long p t))))))
+    ∙ ap (λ (l : List Record). sets l 0 (map recordOf es)) (gathered-none p starts table)
+    ∙ ap (λ (s : Scan). sets table 0 (map recordOf (entriesIn s))) (sym (d .divides))
 
--- a refusal gathers nothing
-pub none-gathers : (p rows : List ℕ) (n : ℕ) (table : List Record) → n ≡ 0 → (readOf p (length table) .number ≡ 0 → ⊥) → Gathers p rows n table
-none-gathers p rows n table e refused =
-    record { within = omega (arith, e); after = ap (λ (k : ℕ). gathered rows k table) e ∙ gathered-none rows table ∙ sym (records-kept p table refused) }
-
-pub read-gathers : (p before after : List ℕ) (r : Outcome) (n : ℕ) (table : List Record) → Enough p (length before) → answerOf r ≡ readOf p (length table)
-    → ListsIf (readOf p (length table) .number) (scanOf p) before after → n ≡ recordsIn r → Gathers p after n table
-read-gathers p before after r n table enough e lists count = go r e count
+-- as many entries as reading counts are filled, and none where it refuses
+pub listed-gathers : (p starts : List ℕ) (n : ℕ) (table : List Record) → Listed p (length table) starts → (readOf p (length table) .number ≡ 0 → n ≡ readOf p (length table) .value) → ((readOf p (length table) .number ≡ 0 → ⊥) → n ≡ 0) → Gathers p starts n table
+unfolding recordsAfter Listed
+listed-gathers p starts n table listed counted refused = go (decLt 0 (readOf p (length table) .number))
   where
-    refused : (k v : ℕ) → answer (suc k) v ≡ readOf p (length table) → readOf p (length table) .number ≡ 0 → ⊥
-    refused k v f z = let g : suc k ≡ readOf p (length table) .number = ap (λ (a : Answer). a .number) f in omega arith
+    go : Dec (0 < readOf p (length table) .number) → Gathers p starts n table
+    go (no h) =
+        let e : readOf p (length table) .number ≡ 0 = omega arith in
+        let l = listed e in
+        let c : readOf p (length table) .value ≡ n = sym (counted e) in
+        let same : answer 0 n ≡ readOf p (length table) = ap (answer 0) (sym c) ∙ ap (λ (k : ℕ). answer k (readOf p (length table) .value)) (sym e) in
+        record {
+          within = read-counted p (length table) n same .fits;
+          after = rw (eq-eqb (readOf p (length table) .number) 0 e) (laid p starts n table (rw c at (l .0)) (rw c at (l .1)));
+        }
+    go (yes h) =
+        let z : readOf p (length table) .number ≡ 0 → ⊥ = λ e. omega arith in
+        record { within = omega (arith, refused z); after = rw (ne-eqb (readOf p (length table) .number) 0 z) (ap (λ (k : ℕ). gathered p starts k table) (refused z) ∙ gathered-none p starts table) }
 
-    go : (r : Outcome) → answerOf r ≡ readOf p (length table) → n ≡ recordsIn r → Gathers p after n table
-    go (Records m) f c =
-        let g : answer 0 n ≡ readOf p (length table) = ap (answer 0) c ∙ f in
-        record { within = read-counted p (length table) n g .fits; after = gathered-after p before after n table enough g lists }
-    go Empty f c = none-gathers p after n table c (refused 0 0 f)
-    go TooLong f c = none-gathers p after n table c (refused 1 0 f)
-    go (NoMark at) f c = none-gathers p after n table c (refused 2 at f)
-    go (Cut at) f c = none-gathers p after n table c (refused 3 at f)
-    go (LengthOver at) f c = none-gathers p after n table c (refused 4 at f)
-    go TooMany f c = none-gathers p after n table c (refused 5 0 f)
-    go (TableShort m) f c = none-gathers p after n table c (refused 6 m f)
+-- the same by what reading answers
+pub read-gathers : (p starts : List ℕ) (r : Outcome) (table : List Record) → answerOf r ≡ readOf p (length table) → Listed p (length table) starts → Gathers p starts (recordsIn r) table
+read-gathers p starts r table e listed = listed-gathers p starts (recordsIn r) table listed (λ z. counts r (ap (λ (a : Answer). a .number) e ∙ z) ∙ ap (λ (a : Answer). a .value) e) (λ z. none-in r (λ y. z (sym (ap (λ (a : Answer). a .number) e) ∙ y)))
+  where
+    counts : (r : Outcome) → answerOf r .number ≡ 0 → recordsIn r ≡ answerOf r .value
+    counts (Records n) z = refl
+    counts Empty z = omega arith
+    counts TooLong z = omega arith
+    counts (NoMark at) z = omega arith
+    counts (Cut at) z = omega arith
+    counts (LengthOver at) z = omega arith
+    counts TooMany z = omega arith
+    counts (TableShort n) z = omega arith
+
+    none-in : (r : Outcome) → (answerOf r .number ≡ 0 → ⊥) → recordsIn r ≡ 0
+    none-in (Records n) z = absurd (z refl)
+    none-in Empty z = refl
+    none-in TooLong z = refl
+    none-in (NoMark at) z = refl
+    none-in (Cut at) z = refl
+    none-in (LengthOver at) z = refl
+    none-in TooMany z = refl
+    none-in (TableShort n) z = refl

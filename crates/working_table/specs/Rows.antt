@@ -1,12 +1,13 @@
--- A table written as numbers, and read from them. Definitions only.
-use Prim.Native.Nat.{ℕ, zero, suc, _+_, _*_, _/_}
+-- A table written as numbers, and filled from a pool by its records' starts. Definitions only.
+use Prim.Native.Nat.{ℕ, zero, suc, _*_, _/_}
 use mathlib.Core.Bool.{Bool, true, false}
 use mathlib.Core.List.{List, [], _∷_}
 use lib.Dec.{ltb}
 use lib.ListN.{length, getD, set}
 use lib.Seq.{sets}
+use Rattle.pool.specs.Reading.{entryAt}
 use Rattle.working_table.specs.declared.Record.{Record}
-use Rattle.working_table.specs.Table.{blank}
+use Rattle.working_table.specs.Table.{recordOf, blank}
 
 abbrev pickRow : Bool → List ℕ → List ℕ → List ℕ
 pickRow true a b = a
@@ -25,11 +26,11 @@ abbrev pickRecord : Bool → Record → Record → Record
 pickRecord true a b = a
 pickRecord false a b = b
 
--- the entry that stands as row i, zeros where the rows do not reach so far
-unfoldable pub rowIn : List ℕ → ℕ → Record
-rowIn rows i = pickRecord (ltb i (length rows / 4)) (record { start = getD rows (i * 4) 0; length = getD rows (i * 4 + 1) 0; kind = getD rows (i * 4 + 2) 0; id = getD rows (i * 4 + 3) 0 }) blank
+-- the entry of record i of a pool, by a list of starts: it ends where the next one starts. Zeros where the list does not reach so far
+unfoldable pub rowIn : List ℕ → List ℕ → ℕ → Record
+rowIn p starts i = pickRecord (ltb (suc i) (length starts)) (recordOf (entryAt p (getD starts i 0) (getD starts (suc i) 0))) blank
 
--- a table with the first n entries filled from rows
-unfoldable pub gathered : List ℕ → ℕ → List Record → List Record
-gathered rows zero table = table
-gathered rows (suc n) table = set (gathered rows n table) n (rowIn rows n)
+-- a table with the first n entries filled from a pool
+unfoldable pub gathered : List ℕ → List ℕ → ℕ → List Record → List Record
+gathered p starts zero table = table
+gathered p starts (suc n) table = set (gathered p starts n table) n (rowIn p starts n)

@@ -1,12 +1,13 @@
 // The working table: a lent slice of records, one entry for each record of a pool. A pool is judged first, so that a refusal
-// leaves the table as it was. Then it is filled from the rows of numbers that judging listed.
+// leaves the table as it was. Then it is filled from the pool, by the starts of the records that judging listed.
 use pool::Outcome;
+use records::view;
 ghost use mathlib.Core.Path.{_≡_};
-ghost use Prim.Native.Nat.{_≤_};
+ghost use Prim.Native.Nat.{_-_, _≤_};
 ghost use lib.ListN.{length};
 ghost use Rattle.pool.specs.Answer.{answerOf};
 ghost use Rattle.pool.specs.Reading.{readOf};
-ghost use Rattle.working_table.specs.Table.{recordsAfter, Reads};
+ghost use Rattle.working_table.specs.Table.{blank, recordsAfter, Reads};
 ghost use Rattle.working_table.specs.Rows.{rowAfter, spreadOver, rowIn, gathered};
 
 // An entry of the table. The kind is its number: 1 DVC, 2 DET, 3 DPD, 4 DPT, 5 DVP.
@@ -43,79 +44,95 @@ pub fn spread(table: &[Record], rows: &mut [u16])
     }
 }
 
-// The entry that stands as row i, of zeros where the rows do not reach so far.
-fn row(rows: &[u16], i: usize) -> Record
-    ensures { λ r. ⌜ r ≡ rowIn (now (rows .entry)) i ⌝ }
+// An entry of zeros.
+fn zeros() -> Record
+    ensures { λ r. ⌜ r ≡ blank ⌝ }
 {
-    if rows.len() / 4 <= i {
-        return Record {
-            start: 0,
-            length: 0,
-            kind: 0,
-            id: 0,
-        };
-    }
-    let at = i * 4;
     Record {
-        start: rows[at],
-        length: rows[at + 1],
-        kind: rows[at + 2],
-        id: rows[at + 3],
+        start: 0,
+        length: 0,
+        kind: 0,
+        id: 0,
     }
 }
 
-// Fills the first so many entries from rows of numbers. Later entries stay.
-pub fn gather(rows: &[u16], count: usize, table: &mut [Record])
+// How far one place lies behind another, 0 where it lies before it.
+fn length_between(start: u16, end: u16) -> u16
+    ensures { λ r. ⌜ r ≡ end - start ⌝ }
+{
+    if end < start {
+        return 0;
+    }
+    end - start
+}
+
+// The entry of record i, which ends where the next one starts. It is of zeros where the list does not reach so far.
+fn row_at(p: &[u8], starts: &[u16], i: usize) -> Record
+    ensures { λ r. ⌜ r ≡ rowIn (now (p .entry)) (now (starts .entry)) i ⌝ }
+{
+    if starts.len() < 2 {
+        return zeros();
+    }
+    if starts.len() - 2 < i {
+        return zeros();
+    }
+    let start = starts[i];
+    let end = starts[i + 1];
+    Record {
+        start,
+        length: length_between(start, end),
+        kind: view::kind(p, start),
+        id: view::id(p, start),
+    }
+}
+
+// Fills the first so many entries from the pool, by a list of its records' starts. Later entries stay.
+pub fn gather(p: &[u8], starts: &[u16], count: usize, table: &mut [Record])
     requires { ⌜ count ≤ length (now table) ⌝ }
-    ensures { λ _. ⌜ now (table .exit) ≡ gathered (now (rows .entry)) count (now (table .entry)) ⌝ }
+    ensures { λ _. ⌜ now (table .exit) ≡ gathered (now (p .entry)) (now (starts .entry)) count (now (table .entry)) ⌝ }
 {
     let mut i = 0usize;
     while i < count {
-        table[i] = row(rows, i);
+        table[i] = row_at(p, starts, i);
         i += 1;
     }
 }
 
-// Reading lists the records as numbers in the one walk over the pool, then fills the table from those. A list with room for every
-// pool takes long to clear, so a short pool gets a short one. A record takes at least 12 bytes: 4 numbers for each 12 are enough.
-fn read_short(p: &[u8], table: &mut [Record]) -> Outcome
-    requires { ⌜ length (now p) ≤ 1536 ⌝ }
-    ensures { λ r. ⌜ Reads (now (p .entry)) r (now (table .entry)) (now (table .exit)) ⌝ }
+// What reading answers, as it is: the answer beside the count of records, which the law for functions over the table asks for.
+fn same(outcome: Outcome) -> Outcome
+    ensures { λ r. ⌜ r ≡ outcome ⌝ }
 {
-    let mut rows = [0u16; 512];
-    let outcome = pool::list_for(p, table.len(), &mut rows);
-    gather(&rows, pool::records_of(outcome), table);
     outcome
 }
 
-fn read_middle(p: &[u8], table: &mut [Record]) -> Outcome
+// Reading lists the records by their starts in the one walk over the pool, then fills the table by that list. A list with room for
+// every pool takes long to clear, so a short pool gets a short one. A record takes at least 12 bytes, and the end of the last stands
+// behind the starts: 1,025 numbers are enough for 12,288 bytes, and 5,462 for every pool.
+fn read_short(p: &[u8], table: &mut [Record]) -> Outcome
     requires { ⌜ length (now p) ≤ 12288 ⌝ }
     ensures { λ r. ⌜ Reads (now (p .entry)) r (now (table .entry)) (now (table .exit)) ⌝ }
 {
-    let mut rows = [0u16; 4096];
-    let outcome = pool::list_for(p, table.len(), &mut rows);
-    gather(&rows, pool::records_of(outcome), table);
-    outcome
+    let mut starts = [0u16; 1025];
+    let outcome = pool::list_for(p, table.len(), &mut starts);
+    gather(p, &starts, pool::records_of(outcome), table);
+    same(outcome)
 }
 
 fn read_long(p: &[u8], table: &mut [Record]) -> Outcome
     ensures { λ r. ⌜ Reads (now (p .entry)) r (now (table .entry)) (now (table .exit)) ⌝ }
 {
-    let mut rows = [0u16; 21844];
-    let outcome = pool::list_for(p, table.len(), &mut rows);
-    gather(&rows, pool::records_of(outcome), table);
-    outcome
+    let mut starts = [0u16; 5462];
+    let outcome = pool::list_for(p, table.len(), &mut starts);
+    gather(p, &starts, pool::records_of(outcome), table);
+    same(outcome)
 }
 
 // Reads a pool into the table.
 pub fn read(p: &[u8], table: &mut [Record]) -> Outcome
     ensures { λ r. ⌜ (answerOf r ≡ readOf (now (p .entry)) (length (now (table .entry)))) × (now (table .exit) ≡ recordsAfter (now (p .entry)) (now (table .entry))) ⌝ }
 {
-    if p.len() <= 1536 {
-        return read_short(p, table);
-    }
     if p.len() <= 12288 {
-        return read_middle(p, table);
+        return read_short(p, table);
     }
     read_long(p, table)
 }

@@ -1,69 +1,54 @@
 -- `counting::count_long` meets its contract. Assumes nothing.
-use mathlib.Core.Path.{sym, _∙_}
-use mathlib.Core.Bool.{true≢false}
 use native.Mathlib.Omega.{arith}
-use borrow.Author.Tests.{not-true, not-false}
+use Prim.Native.Nat.{ℕ}
+use lib.ListN.{length-replicate}
+use Rattle.pool.proofs.Starts.{starts-few}
 use Rattle.naming.proofs.Lists.{blank, long}
-use Rattle.counting.proofs.Lists.{lent}
 use borrow.Author.Needs.{needs}
 use Rattle.counting.proofs.count_long.Statement.{statement}
 use Rattle.counting.proofs.count_long.Tie as tie
 
-slice-aggregate-prepare : tie.Need-slice-aggregate-prepare
-slice-aggregate-prepare c = search needs
+slice-aggregate-name-ids : tie.Need-slice-aggregate-name-ids
+slice-aggregate-name-ids c = search needs
 
-slice-aggregate-prepare-2 : tie.Need-slice-aggregate-prepare-2
-slice-aggregate-prepare-2 c = search needs
+slice-aggregate-name-ids-2 : tie.Need-slice-aggregate-name-ids-2
+slice-aggregate-name-ids-2 c = search needs
 
-slice-aggregate-prepare-3 : tie.Need-slice-aggregate-prepare-3
-slice-aggregate-prepare-3 c = search needs
+name-ids-requires : tie.Need-name-ids-requires
+name-ids-requires c κs = (c .before .before .before .before .before .pre, long 5462 _ (starts-few _ _ (c .before .before .before .before .before .pre)), long 2039 1 (omega arith), blank 2039)
 
-prepare-requires : tie.Need-prepare-requires
-prepare-requires c κs = (c .before .before .before .before .before .before .pre .0, c .before .before .before .before .before .before .pre .1, blank 65536, blank 65536, blank 8193, long 8193 _ (omega (arith, c .before .before .before .before .before .before .pre .1)))
+slice-aggregate-put-all : tie.Need-slice-aggregate-put-all
+slice-aggregate-put-all c = search needs
 
-returns : tie.Need-returns
-returns c = absurd (true≢false (sym (c .before .before .before .before .prepare .ensures .1 (long 65536 65536 (omega arith)) (long 65536 65536 (omega arith)) (c .before .before .before .before .before .before .before .before .before .before .before .pre .5)) ∙ not-true (c .before .before .before .before .prepare .result) (c .if1 .taken)))
+slice-aggregate-put-all-2 : tie.Need-slice-aggregate-put-all-2
+slice-aggregate-put-all-2 c = search needs
 
-slice-aggregate-put-rest : tie.Need-slice-aggregate-put-rest
-slice-aggregate-put-rest c = search needs
+slice-aggregate-put-all-3 : tie.Need-slice-aggregate-put-all-3
+slice-aggregate-put-all-3 c = search needs
 
-slice-aggregate-put-rest-2 : tie.Need-slice-aggregate-put-rest-2
-slice-aggregate-put-rest-2 c = search needs
+slice-aggregate-put-all-4 : tie.Need-slice-aggregate-put-all-4
+slice-aggregate-put-all-4 c = search needs
 
-slice-aggregate-put-rest-3 : tie.Need-slice-aggregate-put-rest-3
-slice-aggregate-put-rest-3 c = search needs
-
-slice-aggregate-put-rest-4 : tie.Need-slice-aggregate-put-rest-4
-slice-aggregate-put-rest-4 c = search needs
-
-slice-aggregate-put-rest-5 : tie.Need-slice-aggregate-put-rest-5
-slice-aggregate-put-rest-5 c = search needs
-
-put-rest-requires : tie.Need-put-rest-requires
-put-rest-requires c κs =
-    let ready = c .before .before .before .before .before .before .before .before .before .before .prepare .ensures .0 (not-false (c .before .before .before .before .before .before .before .before .before .before .prepare .result) (c .before .before .before .before .before .before .if1 .left)) in
-    (ready .0, ready .1, lent 32768 32768 (omega arith) (omega arith) (omega arith), c .before .before .before .before .before .before .before .before .before .before .before .before .before .before .before .before .before .pre .2, c .before .before .before .before .before .before .before .before .before .before .before .before .before .before .before .before .before .pre .3, c .before .before .before .before .before .before .before .before .before .before .before .before .before .before .before .before .before .pre .4)
+put-all-requires : tie.Need-put-all-requires
+put-all-requires c κs = (c .before .before .before .before .before .before .before .name-ids .ensures, blank 684, blank 684, omega (arith, length-replicate {A = ℕ} 684 0, starts-few _ _ (c .before .before .before .before .before .before .before .before .before .before .before .before .before .pre)), omega (arith, length-replicate {A = ℕ} 684 0, starts-few _ _ (c .before .before .before .before .before .before .before .before .before .before .before .before .before .pre)))
 
 same-length : tie.Need-same-length
 same-length c = search needs
 
-returns-2 : tie.Need-returns-2
-returns-2 c = search needs
+returns : tie.Need-returns
+returns c = c .before .before .before .before .put-all .ensures
 
 pub count-long-spec : {M : Type 1} → statement M
 count-long-spec =
     tie.close
     (tie.spec
-    slice-aggregate-prepare
-    slice-aggregate-prepare-2
-    slice-aggregate-prepare-3
-    prepare-requires
-    returns
-    slice-aggregate-put-rest
-    slice-aggregate-put-rest-2
-    slice-aggregate-put-rest-3
-    slice-aggregate-put-rest-4
-    slice-aggregate-put-rest-5
-    put-rest-requires
+    slice-aggregate-name-ids
+    slice-aggregate-name-ids-2
+    name-ids-requires
+    slice-aggregate-put-all
+    slice-aggregate-put-all-2
+    slice-aggregate-put-all-3
+    slice-aggregate-put-all-4
+    put-all-requires
     same-length
-    returns-2)
+    returns)

@@ -1,54 +1,71 @@
 -- `device::first_with` meets its contract. Assumes nothing.
-use mathlib.Core.Path.{sym}
+use mathlib.Core.Path.{sym, _∙_}
 use Prim.Native.Nat.{_-_, _≤_}
 use native.Mathlib.Omega.{arith}
+use lib.ListN.{length}
+use Rattle.pool.specs.Walk.{entriesOf}
+use Rattle.pool.proofs.Starts.{entries-long, starts-few}
+use Rattle.naming.specs.Records.{idAt}
+use Rattle.naming.specs.Lists.{idIn}
 use Rattle.naming.proofs.First.{Without, to-none}
 use Rattle.naming.proofs.Looking.{none-yet, none-more, first-found}
-use Rattle.device.specs.Parts.{columnIn}
+use Rattle.naming.proofs.Starts.{id-read}
 use Rattle.device.proofs.first_with.Statement.{statement}
 use Rattle.device.proofs.first_with.Tie as tie
 
 abbrev Inv-loop : tie.InvT-loop
-Inv-loop table count column x i₀ i = (i ≤ count) × Without (columnIn table column) x i
+Inv-loop p starts id count i₀ i = (i ≤ length (entriesOf p starts)) × Without (idAt (entriesOf p starts)) id i
 
 abbrev μ-loop : tie.MeasureT-loop
-μ-loop table count column x i₀ i = count - i
+μ-loop p starts id count i₀ i = length (entriesOf p starts) - i
+
+sub-count : tie.Need-sub-count Inv-loop μ-loop
+sub-count c = omega (arith, c .before .before .pre .some)
 
 loop-holds : tie.Need-loop-holds Inv-loop μ-loop
-loop-holds c = (omega arith, none-yet (columnIn (c .args .table .now) (c .args .column)) (c .args .x))
+loop-holds c = (omega arith, none-yet (idAt (entriesOf (c .before .before .args .p .now) (c .before .before .args .starts .now))) (c .before .before .args .id))
 
-mul-if1 : tie.Need-mul-if1 Inv-loop μ-loop
-mul-if1 c = omega (arith, c .loop-test .taken, c .before .before .pre .1)
+mul-id : tie.Need-mul-id Inv-loop μ-loop
+mul-id c = omega (arith, c .loop-test .taken)
 
-add-if1 : tie.Need-add-if1 Inv-loop μ-loop
-add-if1 c = omega (arith, c .loop-test .taken, c .before .before .pre .1)
+shared-slice-read-id : tie.Need-shared-slice-read-id Inv-loop μ-loop
+shared-slice-read-id c = omega (arith, c .before .loop-test .taken)
 
-mul-if1-2 : tie.Need-mul-if1-2 Inv-loop μ-loop
-mul-if1-2 c = omega (arith, c .loop-test .taken, c .before .before .pre .1)
-
-shared-slice-read-if1 : tie.Need-shared-slice-read-if1 Inv-loop μ-loop
-shared-slice-read-if1 c = omega (arith, c .before .loop-test .taken, c .before .before .before .pre .0, c .before .before .before .pre .2)
+id-requires : tie.Need-id-requires Inv-loop μ-loop
+id-requires c κs = tt
 
 add-result : tie.Need-add-result Inv-loop μ-loop
-add-result c = omega (arith, c .before .before .loop-test .taken, c .before .before .before .before .pre .1)
+add-result c = omega (arith, c .before .before .before .loop-test .taken, starts-few (c .before .before .before .before .before .before .before .args .p .now) (c .before .before .before .before .before .before .before .args .starts .now) (c .before .before .before .before .before .before .before .pre))
 
 cast-result : tie.Need-cast-result Inv-loop μ-loop
-cast-result c = omega (arith, c .before .before .loop-test .taken, c .before .before .before .before .pre .1)
+cast-result c = omega (arith, c .before .before .before .loop-test .taken, starts-few (c .before .before .before .before .before .before .before .args .p .now) (c .before .before .before .before .before .before .before .args .starts .now) (c .before .before .before .before .before .before .before .pre))
 
 returns : tie.Need-returns Inv-loop μ-loop
-returns c = first-found (columnIn (c .before .before .before .before .args .table .now) (c .before .before .before .before .args .column)) (c .before .before .before .before .args .x) (c .before .before .before .before .args .count) (c .before .before .before .loop .i) (c .before .before .loop-test .taken) (c .before .before .before .loop .inv .1) (c .if1 .taken)
+unfolding idIn
+returns c =
+    let p = c .before .before .before .before .before .before .before .args .p .now in
+    let starts = c .before .before .before .before .before .before .before .args .starts .now in
+    let long = entries-long p starts in
+    first-found (idAt (entriesOf p starts)) (c .before .before .before .before .before .before .before .args .id) (length (entriesOf p starts)) (c .before .before .before .before .loop .i) (omega (arith, c .before .before .before .loop-test .taken)) (c .before .before .before .before .loop .inv .1) (id-read p starts (c .before .before .before .before .loop .i) (omega (arith, c .before .before .before .loop-test .taken)) ∙ sym (c .before .id .ensures) ∙ c .if1 .taken)
 
 add-i : tie.Need-add-i Inv-loop μ-loop
-add-i c = omega (arith, c .before .before .loop-test .taken, c .before .before .before .before .pre .1)
+add-i c = omega (arith, c .before .before .before .loop-test .taken, starts-few (c .before .before .before .before .before .before .before .args .p .now) (c .before .before .before .before .before .before .before .args .starts .now) (c .before .before .before .before .before .before .before .pre))
 
 loop-less : tie.Need-loop-less Inv-loop μ-loop
-loop-less c = omega (arith, c .before .before .loop-test .taken)
+loop-less c = omega (arith, c .before .before .before .loop-test .taken, entries-long (c .before .before .before .before .before .before .before .args .p .now) (c .before .before .before .before .before .before .before .args .starts .now))
 
 loop-again : tie.Need-loop-again Inv-loop μ-loop
-loop-again c = (omega (arith, c .before .before .loop-test .taken), none-more (columnIn (c .before .before .before .before .args .table .now) (c .before .before .before .before .args .column)) (c .before .before .before .before .args .x) (c .before .before .before .loop .i) (c .before .before .before .loop .inv .1) (c .if1 .left))
+unfolding idIn
+loop-again c =
+    let p = c .before .before .before .before .before .before .before .args .p .now in
+    let starts = c .before .before .before .before .before .before .before .args .starts .now in
+    (omega (arith, c .before .before .before .loop-test .taken, entries-long p starts), none-more (idAt (entriesOf p starts)) (c .before .before .before .before .before .before .before .args .id) (c .before .before .before .before .loop .i) (c .before .before .before .before .loop .inv .1) (λ e. c .if1 .left (c .before .id .ensures ∙ sym (id-read p starts (c .before .before .before .before .loop .i) (omega (arith, c .before .before .before .loop-test .taken))) ∙ e)))
 
 returns-2 : tie.Need-returns-2 Inv-loop μ-loop
-returns-2 c = sym (to-none (columnIn (c .before .before .args .table .now) (c .before .before .args .column)) (c .before .before .args .x) (c .before .before .args .count) (λ j h. c .before .loop .inv .1 j (omega (arith, c .loop-test .left, c .before .loop .inv .0, h))))
+returns-2 c =
+    let p = c .before .before .before .before .args .p .now in
+    let starts = c .before .before .before .before .args .starts .now in
+    sym (to-none (idAt (entriesOf p starts)) (c .before .before .before .before .args .id) (length (entriesOf p starts)) (λ j h. c .before .loop .inv .1 j (omega (arith, c .loop-test .left, entries-long p starts, h))))
 
 pub first-with-spec : {M : Type 1} → statement M
 first-with-spec =
@@ -56,11 +73,11 @@ first-with-spec =
     (tie.spec
     Inv-loop
     μ-loop
+    sub-count
     loop-holds
-    mul-if1
-    add-if1
-    mul-if1-2
-    shared-slice-read-if1
+    mul-id
+    shared-slice-read-id
+    id-requires
     add-result
     cast-result
     returns

@@ -1,10 +1,5 @@
--- `device_pool::labels_long` meets its contract: it is labelling with a list of 21,844 numbers (`Labelling.antt`), which reaches for every record of any pool that is not too long. Assumes nothing.
-use native.Mathlib.Omega.{arith}
-use lib.Dec.{lit<}
-use mir.Syntax.{intBig, w64}
-use base.Logic.{emp, via, fst∗}
-use Rattle.working_table.proofs.Local.{big-lit}
-use Rattle.working_table.proofs.Reading.{Any}
+-- `device_pool::labels_long` meets its contract (`Labelling.antt`). Assumes nothing.
+use Rattle.working_table.proofs.Sizes.{long}
 use Rattle.device_pool.proofs.Labelling.{labelling-spec}
 use Rattle.device_pool.proofs.labels_long.Key.{name}
 use Rattle.device_pool.proofs.labels_long.Statement as stated
@@ -13,5 +8,4 @@ use Rattle.device_pool.proofs.labels_long.Code as code
 pub labels-long-spec : {M : Type 1} → stated.statement M
 unfolding code.routine
 labels-long-spec 𝓤 H 𝓜 𝓖 𝓡 =
-    labelling-spec 𝓤 H 𝓜 𝓖 𝓡 code.env name _ (intBig w64 _) (code.unfolded 𝓤 H 𝓜 𝓡) code.calls-device-pool·labels-by code.calls-working-table·gather
-    (λ K Γ E g. big-lit g (record { fits = lit< tt })) (lit< tt, lit< tt) (Any 𝓤) (λ p P Q k. via 𝓤 P (fst∗ 𝓤 P (emp 𝓤)) (k (λ short. omega arith)))
+    labelling-spec 𝓤 H 𝓜 𝓖 𝓡 (long 𝓤) code.env name (code.unfolded 𝓤 H 𝓜 𝓡) code.calls-device-pool·labels-by code.calls-device-pool·shown-records code.calls-working-table·gather code.calls-device-pool·shown-labels

@@ -1,10 +1,5 @@
--- `device_pool::labels_short` meets its contract: it is labelling with a list of 512 numbers (`Labelling.antt`), which reaches for every record of a pool of at most 1,536 bytes. Assumes nothing.
-use native.Mathlib.Omega.{arith}
-use lib.Dec.{lit<}
-use mir.Syntax.{int, w64}
-use types.Run.{lit}
-use denote.Triple.Walked.{needs}
-use Rattle.working_table.proofs.Reading.{AtMost}
+-- `device_pool::labels_short` meets its contract (`Labelling.antt`). Assumes nothing.
+use Rattle.working_table.proofs.Sizes.{short}
 use Rattle.device_pool.proofs.Labelling.{labelling-spec}
 use Rattle.device_pool.proofs.labels_short.Key.{name}
 use Rattle.device_pool.proofs.labels_short.Statement as stated
@@ -13,5 +8,4 @@ use Rattle.device_pool.proofs.labels_short.Code as code
 pub labels-short-spec : {M : Type 1} → stated.statement M
 unfolding code.routine
 labels-short-spec 𝓤 H 𝓜 𝓖 𝓡 =
-    labelling-spec 𝓤 H 𝓜 𝓖 𝓡 code.env name _ (int w64 _) (code.unfolded 𝓤 H 𝓜 𝓡) code.calls-device-pool·labels-by code.calls-working-table·gather
-    (λ K Γ E g. lit g tt) (lit< tt, lit< tt) (AtMost 𝓤 _) (λ p P Q k. needs 𝓤 _ P (λ h. k (λ short. omega arith)))
+    labelling-spec 𝓤 H 𝓜 𝓖 𝓡 (short 𝓤) code.env name (code.unfolded 𝓤 H 𝓜 𝓡) code.calls-device-pool·labels-by code.calls-device-pool·shown-records code.calls-working-table·gather code.calls-device-pool·shown-labels

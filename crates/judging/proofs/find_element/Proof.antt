@@ -1,67 +1,90 @@
 -- `judging::find_element` meets its contract: the walk passes the elements that have another number. Assumes nothing.
-use mathlib.Core.Path.{sym, _∙_}
-use Prim.Native.Nat.{_-_, _≤_}
+use mathlib.Core.Path.{_≡_, refl, sym, ap, _∙_}
+use mathlib.Core.Bool.{cond}
+use mathlib.Core.List.{List}
+use Prim.Native.Nat.{ℕ, suc, _-_, _≤_, _<_}
 use native.Mathlib.Omega.{arith}
 use borrow.Author.Tests.{eqb-true, eqb-false}
-use Rattle.naming.specs.Steps.{numberIn}
+use lib.Dec.{eqb}
+use lib.ListN.{length, getD}
+use Rattle.views.specs.Fields.{elementOf}
+use Rattle.records.specs.Layout.{markNumber, markOf, three}
+use Rattle.pool.specs.Walk.{entriesOf}
+use Rattle.pool.proofs.Starts.{entries-long, starts-few}
+use Rattle.naming.specs.Naming.{numberKey}
 use Rattle.naming.proofs.First.{Without, to-none}
 use Rattle.naming.proofs.Looking.{none-yet, none-more, first-found}
+use Rattle.naming.proofs.Starts.{start-read, kind-is}
+use Rattle.judging.specs.Judging.{elementFor}
+use borrow.Author.Needs.{needs}
 use Rattle.judging.proofs.find_element.Statement.{statement}
 use Rattle.judging.proofs.find_element.Tie as tie
 
+-- the number by which record i is looked for, as it stands in the pool
+key-read : (p starts : List ℕ) (i kind : ℕ) → suc i < length starts → kind ≡ markNumber (markOf (three p (getD starts i 0)))
+    → cond (eqb kind 2) (elementOf p (getD starts i 0) .number) 65536 ≡ numberKey p (entriesOf p starts) i
+key-read p starts i kind l e = rw (e, kind-is p starts i l, start-read p starts i l)
+
 abbrev Inv-loop : tie.InvT-loop
-Inv-loop p table count element i₀ i = (i ≤ count) × Without (numberIn p table) element i
+Inv-loop p starts element count i₀ i = (i ≤ length (entriesOf p starts)) × Without (numberKey p (entriesOf p starts)) element i
 
 abbrev μ-loop : tie.MeasureT-loop
-μ-loop p table count element i₀ i = count - i
+μ-loop p starts element count i₀ i = length (entriesOf p starts) - i
+
+sub-count : tie.Need-sub-count Inv-loop μ-loop
+sub-count c = omega (arith, c .before .before .pre .some)
 
 loop-holds : tie.Need-loop-holds Inv-loop μ-loop
-loop-holds c = (omega arith, none-yet (numberIn (c .before .before .args .p .now) (c .before .before .args .table .now)) (c .before .before .args .element))
+loop-holds c = (omega arith, none-yet (numberKey (c .before .before .args .p .now) (entriesOf (c .before .before .args .p .now) (c .before .before .args .starts .now))) (c .before .before .args .element))
 
-mul-is-numbered : tie.Need-mul-is-numbered Inv-loop μ-loop
-mul-is-numbered c = omega (arith, c .loop-test .taken, c .before .before .before .before .pre .1)
+mul-at : tie.Need-mul-at Inv-loop μ-loop
+mul-at c = omega (arith, c .loop-test .taken)
 
-mul-is-numbered-2 : tie.Need-mul-is-numbered-2 Inv-loop μ-loop
-mul-is-numbered-2 c = omega (arith, c .loop-test .taken, c .before .before .before .before .pre .1)
+shared-slice-read-at : tie.Need-shared-slice-read-at Inv-loop μ-loop
+shared-slice-read-at c = omega (arith, c .before .loop-test .taken)
 
-shared-slice-read-is-numbered : tie.Need-shared-slice-read-is-numbered Inv-loop μ-loop
-shared-slice-read-is-numbered c = omega (arith, c .before .loop-test .taken, c .before .before .before .before .before .pre .0)
-
-mul-is-numbered-3 : tie.Need-mul-is-numbered-3 Inv-loop μ-loop
-mul-is-numbered-3 c = omega (arith, c .before .loop-test .taken, c .before .before .before .before .before .pre .1)
-
-add-is-numbered : tie.Need-add-is-numbered Inv-loop μ-loop
-add-is-numbered c = omega (arith, c .before .loop-test .taken, c .before .before .before .before .before .pre .1)
-
-mul-is-numbered-4 : tie.Need-mul-is-numbered-4 Inv-loop μ-loop
-mul-is-numbered-4 c = omega (arith, c .before .loop-test .taken, c .before .before .before .before .before .pre .1)
-
-shared-slice-read-is-numbered-2 : tie.Need-shared-slice-read-is-numbered-2 Inv-loop μ-loop
-shared-slice-read-is-numbered-2 c = omega (arith, c .before .before .loop-test .taken, c .before .before .before .before .before .before .pre .0)
+kind-requires : tie.Need-kind-requires Inv-loop μ-loop
+kind-requires c κs = tt
 
 is-numbered-requires : tie.Need-is-numbered-requires Inv-loop μ-loop
 is-numbered-requires c κs = tt
 
 add-result : tie.Need-add-result Inv-loop μ-loop
-add-result c = omega (arith, c .before .before .before .before .loop-test .taken, c .before .before .before .before .before .before .before .before .pre .1)
+add-result c = omega (arith, c .before .before .before .before .loop-test .taken, starts-few (c .before .before .before .before .before .before .before .before .args .p .now) (c .before .before .before .before .before .before .before .before .args .starts .now) (c .before .before .before .before .before .before .before .before .pre))
 
 cast-result : tie.Need-cast-result Inv-loop μ-loop
-cast-result c = omega (arith, c .before .before .before .before .loop-test .taken, c .before .before .before .before .before .before .before .before .pre .1)
+cast-result c = omega (arith, c .before .before .before .before .loop-test .taken, starts-few (c .before .before .before .before .before .before .before .before .args .p .now) (c .before .before .before .before .before .before .before .before .args .starts .now) (c .before .before .before .before .before .before .before .before .pre))
 
 returns : tie.Need-returns Inv-loop μ-loop
-returns c = first-found (numberIn (c .before .before .before .before .before .before .before .before .args .p .now) (c .before .before .before .before .before .before .before .before .args .table .now)) (c .before .before .before .before .before .before .before .before .args .element) (c .before .before .before .before .before .before .before .before .args .count) (c .before .before .before .before .before .loop .i) (c .before .before .before .before .loop-test .taken) (c .before .before .before .before .before .loop .inv .1) (eqb-true (numberIn (c .before .before .before .before .before .before .before .before .args .p .now) (c .before .before .before .before .before .before .before .before .args .table .now) (c .before .before .before .before .before .loop .i)) (c .before .before .before .before .before .before .before .before .args .element) (sym (c .before .is-numbered .ensures) ∙ c .if1 .taken))
+unfolding elementFor
+returns c =
+    let p = c .before .before .before .before .before .before .before .before .args .p .now in
+    let starts = c .before .before .before .before .before .before .before .before .args .starts .now in
+    let i = c .before .before .before .before .before .loop .i in
+    let l : suc i < length starts = omega (arith, c .before .before .before .before .loop-test .taken) in
+    first-found (numberKey p (entriesOf p starts)) (c .before .before .before .before .before .before .before .before .args .element) (length (entriesOf p starts)) i (omega (arith, entries-long p starts)) (c .before .before .before .before .before .loop .inv .1)
+    (sym (key-read p starts i (c .before .before .kind .result) l (c .before .before .kind .ensures)) ∙ eqb-true _ _ (sym (c .before .is-numbered .ensures) ∙ c .if1 .taken))
 
 add-i : tie.Need-add-i Inv-loop μ-loop
-add-i c = omega (arith, c .before .before .before .before .loop-test .taken, c .before .before .before .before .before .before .before .before .pre .1)
+add-i c = omega (arith, c .before .before .before .before .loop-test .taken, starts-few (c .before .before .before .before .before .before .before .before .args .p .now) (c .before .before .before .before .before .before .before .before .args .starts .now) (c .before .before .before .before .before .before .before .before .pre))
 
 loop-less : tie.Need-loop-less Inv-loop μ-loop
-loop-less c = omega (arith, c .before .before .before .before .loop-test .taken)
+loop-less c = omega (arith, c .before .before .before .before .loop-test .taken, entries-long (c .before .before .before .before .before .before .before .before .args .p .now) (c .before .before .before .before .before .before .before .before .args .starts .now))
 
 loop-again : tie.Need-loop-again Inv-loop μ-loop
-loop-again c = (omega (arith, c .before .before .before .before .loop-test .taken), none-more (numberIn (c .before .before .before .before .before .before .before .before .args .p .now) (c .before .before .before .before .before .before .before .before .args .table .now)) (c .before .before .before .before .before .before .before .before .args .element) (c .before .before .before .before .before .loop .i) (c .before .before .before .before .before .loop .inv .1) (eqb-false (numberIn (c .before .before .before .before .before .before .before .before .args .p .now) (c .before .before .before .before .before .before .before .before .args .table .now) (c .before .before .before .before .before .loop .i)) (c .before .before .before .before .before .before .before .before .args .element) (sym (c .before .is-numbered .ensures) ∙ c .if1 .left)))
+loop-again c =
+    let p = c .before .before .before .before .before .before .before .before .args .p .now in
+    let starts = c .before .before .before .before .before .before .before .before .args .starts .now in
+    let i = c .before .before .before .before .before .loop .i in
+    let l : suc i < length starts = omega (arith, c .before .before .before .before .loop-test .taken) in
+    (omega (arith, entries-long p starts), none-more (numberKey p (entriesOf p starts)) (c .before .before .before .before .before .before .before .before .args .element) i (c .before .before .before .before .before .loop .inv .1) (λ e. eqb-false _ _ (sym (c .before .is-numbered .ensures) ∙ c .if1 .left) (key-read p starts i (c .before .before .kind .result) l (c .before .before .kind .ensures) ∙ e)))
 
 returns-2 : tie.Need-returns-2 Inv-loop μ-loop
-returns-2 c = sym (to-none (numberIn (c .before .before .before .before .args .p .now) (c .before .before .before .before .args .table .now)) (c .before .before .before .before .args .element) (c .before .before .before .before .args .count) (λ j h. c .before .loop .inv .1 j (omega (arith, c .loop-test .left, c .before .loop .inv .0, h))))
+unfolding elementFor
+returns-2 c =
+    let p = c .before .before .before .before .args .p .now in
+    let starts = c .before .before .before .before .args .starts .now in
+    sym (to-none (numberKey p (entriesOf p starts)) (c .before .before .before .before .args .element) (length (entriesOf p starts)) (λ j h. c .before .loop .inv .1 j (omega (arith, c .loop-test .left, entries-long p starts, h))))
 
 pub find-element-spec : {M : Type 1} → statement M
 find-element-spec =
@@ -69,14 +92,11 @@ find-element-spec =
     (tie.spec
     Inv-loop
     μ-loop
+    sub-count
     loop-holds
-    mul-is-numbered
-    mul-is-numbered-2
-    shared-slice-read-is-numbered
-    mul-is-numbered-3
-    add-is-numbered
-    mul-is-numbered-4
-    shared-slice-read-is-numbered-2
+    mul-at
+    shared-slice-read-at
+    kind-requires
     is-numbered-requires
     add-result
     cast-result

@@ -1,10 +1,5 @@
--- `checker::table::check_in_long` meets its contract: it is checking with a list of 21,844 numbers (`Sizes.antt`), which reaches for every record of any pool that is not too long. Assumes nothing.
-use native.Mathlib.Omega.{arith}
-use lib.Dec.{lit<}
-use mir.Syntax.{intBig, w64}
-use base.Logic.{emp, via, fst∗}
-use Rattle.working_table.proofs.Local.{big-lit}
-use Rattle.working_table.proofs.Reading.{Any}
+-- `checker::table::check_in_long` meets its contract (`Sizes.antt`). Assumes nothing.
+use Rattle.working_table.proofs.Sizes.{long}
 use Rattle.checker.proofs.Sizes.{checking-spec}
 use Rattle.checker.proofs.table.check_in_long.Key.{name}
 use Rattle.checker.proofs.table.check_in_long.Statement as stated
@@ -13,5 +8,4 @@ use Rattle.checker.proofs.table.check_in_long.Code as code
 pub check-in-long-spec : {M : Type 1} → stated.statement M
 unfolding code.routine
 check-in-long-spec 𝓤 H 𝓜 𝓖 𝓡 =
-    checking-spec 𝓤 H 𝓜 𝓖 𝓡 code.env name _ (intBig w64 _) (code.unfolded 𝓤 H 𝓜 𝓡) code.calls-checker·check-by code.calls-checker·records-of code.calls-working-table·gather
-    (λ K Γ E g. big-lit g (record { fits = lit< tt })) (lit< tt, lit< tt) (Any 𝓤) (λ p P Q k. via 𝓤 P (fst∗ 𝓤 P (emp 𝓤)) (k (λ short. omega arith)))
+    checking-spec 𝓤 H 𝓜 𝓖 𝓡 (long 𝓤) code.env name (code.unfolded 𝓤 H 𝓜 𝓡) code.calls-checker·check-by code.calls-checker·records-of code.calls-working-table·gather code.calls-checker·table·same

@@ -1,10 +1,5 @@
--- `checker::table::check_in_short` meets its contract: it is checking with a list of 512 numbers (`Sizes.antt`), which reaches for every record of a pool of at most 1,536 bytes. Assumes nothing.
-use native.Mathlib.Omega.{arith}
-use lib.Dec.{lit<}
-use mir.Syntax.{int, w64}
-use types.Run.{lit}
-use denote.Triple.Walked.{needs}
-use Rattle.working_table.proofs.Reading.{AtMost}
+-- `checker::table::check_in_short` meets its contract (`Sizes.antt`). Assumes nothing.
+use Rattle.working_table.proofs.Sizes.{short}
 use Rattle.checker.proofs.Sizes.{checking-spec}
 use Rattle.checker.proofs.table.check_in_short.Key.{name}
 use Rattle.checker.proofs.table.check_in_short.Statement as stated
@@ -13,5 +8,4 @@ use Rattle.checker.proofs.table.check_in_short.Code as code
 pub check-in-short-spec : {M : Type 1} → stated.statement M
 unfolding code.routine
 check-in-short-spec 𝓤 H 𝓜 𝓖 𝓡 =
-    checking-spec 𝓤 H 𝓜 𝓖 𝓡 code.env name _ (int w64 _) (code.unfolded 𝓤 H 𝓜 𝓡) code.calls-checker·check-by code.calls-checker·records-of code.calls-working-table·gather
-    (λ K Γ E g. lit g tt) (lit< tt, lit< tt) (AtMost 𝓤 _) (λ p P Q k. needs 𝓤 _ P (λ h. k (λ short. omega arith)))
+    checking-spec 𝓤 H 𝓜 𝓖 𝓡 (short 𝓤) code.env name (code.unfolded 𝓤 H 𝓜 𝓡) code.calls-checker·check-by code.calls-checker·records-of code.calls-working-table·gather code.calls-checker·table·same

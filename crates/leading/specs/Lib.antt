@@ -1,2 +1,0 @@
--- What the contracts of `leading` cite.
-pub mod Leading
