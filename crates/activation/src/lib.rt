@@ -55,7 +55,7 @@ fn unread(verdict: Verdict) -> Answer
     }
 }
 
-// What activating answers, and how many entries of the table are then filled from the rows.
+// What activating answers, and how many entries of the table are then filled.
 struct Activated {
     step: Step,
     records: usize,
@@ -67,13 +67,25 @@ fn filling(step: Step, records: usize) -> Activated
     Activated { step, records }
 }
 
-// Checks the pool that has arrived whole, by rows that reach for every record, and keeps it if it is accepted.
-fn settle(s: Session, p: &[u8], kept: &mut [u8], room: usize, rows: &mut [u16]) -> Activated
-    requires { ⌜ (1 ≤ length (now p)) × (length (now p) ≤ 65535) × (length (now p) ≤ length (now kept)) × Reaches (now rows) (now p) ⌝ }
-    ensures { λ r. ⌜ (stepOf (r .step) ≡ settled s (now (p .entry)) room) × (now (kept .exit) ≡ keptSettled (now (p .entry)) room (now (kept .entry))) × (r .records ≡ countOf (now (p .entry)) room) × Listed (now (p .entry)) room (now (rows .entry)) (now (rows .exit)) ⌝ }
+fn activated_records(activated: Activated) -> usize
+    ensures { λ r. ⌜ r ≡ activated .records ⌝ }
+{
+    activated.records
+}
+
+fn activated_step(activated: Activated) -> Step
+    ensures { λ r. ⌜ r ≡ activated .step ⌝ }
+{
+    activated.step
+}
+
+// Checks the pool that has arrived whole, by a list that reaches for every record, and keeps it if it is accepted.
+fn settle(s: Session, p: &[u8], kept: &mut [u8], room: usize, starts: &mut [u16]) -> Activated
+    requires { ⌜ (1 ≤ length (now p)) × (length (now p) ≤ 65535) × (length (now p) ≤ length (now kept)) × Reaches (now starts) (now p) ⌝ }
+    ensures { λ r. ⌜ (stepOf (r .step) ≡ settled s (now (p .entry)) room) × (now (kept .exit) ≡ keptSettled (now (p .entry)) room (now (kept .entry))) × (r .records ≡ countOf (now (p .entry)) room) × Listed (now (p .entry)) room (now (starts .exit)) ⌝ }
 {
     let mut first = [0u16; 3];
-    let verdict = checker::check_by(p, room, rows, &mut first);
+    let verdict = checker::check_by(p, room, starts, &mut first);
     let records = checker::records_of(verdict);
     let number = checker::number_of(verdict);
     if number == 7 {
@@ -107,17 +119,17 @@ fn settle(s: Session, p: &[u8], kept: &mut [u8], room: usize, rows: &mut [u16]) 
     filling(step, records)
 }
 
-// Activates the pool that is offered, or else the one that is kept, for a table of so many entries. The rows then start with the
-// entries of the pool that is checked, where it is read; where none is checked, no entry is filled.
+// Activates the pool that is offered, or else the one that is kept, for a table of so many entries. The list then begins with the
+// starts of the records of the pool that is checked, where it is read; where none is checked, no entry is filled.
 fn activate_in(
     s: Session,
     staging: &[u8],
     kept: &mut [u8],
     room: usize,
-    rows: &mut [u16],
+    starts: &mut [u16],
 ) -> Activated
-    requires { ⌜ Reaches (now rows) (take (s .announced) (now staging)) ⌝ }
-    ensures { λ r. ⌜ (stepOf (r .step) ≡ activateOf s (now (staging .entry)) (length (now (kept .entry))) room) × (now (kept .exit) ≡ keptAfter s (now (staging .entry)) (now (kept .entry)) room) × (r .records ≡ recordsFor s (now (staging .entry)) (length (now (kept .entry))) room) × ListsFor s (now (staging .entry)) (length (now (kept .entry))) room (now (rows .entry)) (now (rows .exit)) ⌝ }
+    requires { ⌜ Reaches (now starts) (take (s .announced) (now staging)) ⌝ }
+    ensures { λ r. ⌜ (stepOf (r .step) ≡ activateOf s (now (staging .entry)) (length (now (kept .entry))) room) × (now (kept .exit) ≡ keptAfter s (now (staging .entry)) (now (kept .entry)) room) × (r .records ≡ recordsFor s (now (staging .entry)) (length (now (kept .entry))) room) × ListsFor s (now (staging .entry)) (length (now (kept .entry))) room (now (starts .exit)) ⌝ }
 {
     if session::is_impossible(s) {
         return filling(session::refuse(s, Answer::CannotArise), 0);
@@ -133,17 +145,16 @@ fn activate_in(
     if (staging.len() < announced) | (kept.len() < announced) {
         return filling(session::refuse(s, Answer::NoRoom), 0);
     }
-    settle(s, &staging[..announced], kept, room, rows)
+    settle(s, &staging[..announced], kept, room, starts)
 }
 
 // Activates the pool that is offered, or else the one that is kept. The table is filled where a pool is checked and read, from the
-// rows that the check lists its records in. A record has at least 12 bytes: the rows reach for every pool.
+// starts that the check lists its records by. A record has at least 12 bytes: the list reaches for every pool.
 pub fn activate(s: Session, staging: &[u8], kept: &mut [u8], table: &mut [Record]) -> Step
     ensures { λ r. ⌜ (stepOf r ≡ activateOf s (now (staging .entry)) (length (now (kept .entry))) (length (now (table .entry)))) × (now (kept .exit) ≡ keptAfter s (now (staging .entry)) (now (kept .entry)) (length (now (table .entry)))) × (now (table .exit) ≡ activatedRecords s (now (staging .entry)) (length (now (kept .entry))) (now (table .entry))) ⌝ }
 {
-    let mut rows = [0u16; 21844];
-    let room = table.len();
-    let activated = activate_in(s, staging, kept, room, &mut rows);
-    working_table::gather(&rows, activated.records, table);
-    activated.step
+    let mut starts = [0u16; 5462];
+    let activated = activate_in(s, staging, kept, table.len(), &mut starts);
+    working_table::gather(staging, &starts, activated_records(activated), table);
+    activated_step(activated)
 }

@@ -6,15 +6,17 @@ use native.Mathlib.Decide.{decLt}
 use native.Mathlib.Numerals.{add-one}
 use native.Mathlib.Omega.{arith}
 use borrow.Author.Tests.{lt-ltb, le-ltb, eq-eqb, ne-eqb}
-use lib.ListN.{length, getD, set, take, length-set}
-use lib.Seq.{sets, getD-take, length-take-le}
+use lib.ListN.{length, getD, set, take, drop, length-set}
+use lib.Seq.{sets, getD-take, length-take-le, take-take, take-nil}
+use Rattle.wire.specs.Bytes.{numberAt}
+use Rattle.records.specs.Places.{idOf}
 use Rattle.pool.specs.Answer.{Answer, answer, answerOf, recordsIn}
 use Rattle.pool.specs.Reading.{Entry, entryAt, Scan, records, scanOf, entriesIn, readOf}
 use Rattle.pool.specs.Walk.{entriesOf, Divided, Listed}
 use Rattle.pool.specs.declared.Outcome.{Outcome}
 use Rattle.pool.specs.declared.Outcome.the-variants.{Records, Empty, TooLong, NoMark, Cut, LengthOver, TooMany, TableShort}
 use Rattle.pool.proofs.Judged.{read-counted}
-use Rattle.pool.proofs.Starts.{entries-long, entry-at}
+use Rattle.pool.proofs.Starts.{entries-long, entry-at, starts-within}
 use Rattle.working_table.specs.declared.Record.{Record}
 use Rattle.working_table.specs.Table.{recordOf, blank, recordsAfter}
 use Rattle.working_table.specs.Rows.{rowIn, gathered}
@@ -93,6 +95,44 @@ listed-gathers p starts n table listed counted refused = go (decLt 0 (readOf p (
     go (yes h) =
         let z : readOf p (length table) .number ≡ 0 → ⊥ = λ e. omega arith in
         record { within = omega (arith, refused z); after = rw (ne-eqb (readOf p (length table) .number) 0 z) (ap (λ (k : ℕ). gathered p starts k table) (refused z) ∙ gathered-none p starts table) }
+
+-- each record that is counted lies within the pool
+pub listed-within : (p starts : List ℕ) (n room : ℕ) → Listed p room starts → (readOf p room .number ≡ 0 → n ≡ readOf p room .value) → ((readOf p room .number ≡ 0 → ⊥) → n ≡ 0) → (i : ℕ) → i < n → getD starts i 0 + 12 ≤ length p
+unfolding Listed
+listed-within p starts n room listed counted refused i h = go (decLt 0 (readOf p room .number))
+  where
+    go : Dec (0 < readOf p room .number) → getD starts i 0 + 12 ≤ length p
+    go (no x) =
+        let e : readOf p room .number ≡ 0 = omega arith in
+        let l = listed e in
+        let m : ℕ = readOf p room .value in
+        let long : length (take (m + 1) starts) ≡ m + 1 = length-take-le (m + 1) starts (omega (arith, l .0)) in
+        omega (arith, counted e, starts-within p (take (m + 1) starts) (l .1) i (omega (arith, counted e)), getD-take (m + 1) starts i 0 (omega (arith, counted e)))
+    go (yes x) = let none = refused (λ e. omega arith) in absurd (omega arith)
+
+-- so a table that is filled from more bytes than the pool's is the same
+entry-part : (a : ℕ) (s : List ℕ) (at end : ℕ) → at + 12 ≤ a → entryAt (take a s) at end ≡ entryAt s at end
+unfolding idOf numberAt
+entry-part a s at end h =
+    rw (getD-take a s at 0 (omega arith), getD-take a s (at + 1) 0 (omega arith), getD-take a s (at + 2) 0 (omega arith), part-of 2 (at + 3) a s (omega arith))
+  where
+    part-of : (w k a : ℕ) (s : List ℕ) → k + w ≤ a → take w (drop k (take a s)) ≡ take w (drop k s)
+    part-of w zero a s h = take-take w a s (omega arith)
+    part-of w (suc k) a [] h = ap (λ (l : List ℕ). take w (drop (suc k) l)) (take-nil a)
+    part-of w (suc k) zero (x ∷ s) h = absurd (omega arith)
+    part-of w (suc k) (suc a) (x ∷ s) h = part-of w k a s (omega arith)
+
+pub gathered-part : (a : ℕ) (s starts : List ℕ) (n : ℕ) (table : List Record) → ((i : ℕ) → i < n → getD starts i 0 + 12 ≤ a) → gathered s starts n table ≡ gathered (take a s) starts n table
+unfolding gathered
+gathered-part a s starts zero table within = refl
+gathered-part a s starts (suc n) table within =
+    ap (λ (l : List Record). set l n (rowIn s starts n)) (gathered-part a s starts n table (λ i h. within i (omega arith)))
+    ∙ ap (set (gathered (take a s) starts n table) n) (row-part (decLt (suc n) (length starts)))
+  where
+    row-part : Dec (suc n < length starts) → rowIn s starts n ≡ rowIn (take a s) starts n
+    row-part (yes h) =
+        row-there s starts n h ∙ sym (row-there (take a s) starts n h ∙ ap recordOf (entry-part a s (getD starts n 0) (getD starts (suc n) 0) (within n (omega arith))))
+    row-part (no h) = row-past s starts n (omega arith) ∙ sym (row-past (take a s) starts n (omega arith))
 
 -- the same by what reading answers
 pub read-gathers : (p starts : List ℕ) (r : Outcome) (table : List Record) → answerOf r ≡ readOf p (length table) → Listed p (length table) starts → Gathers p starts (recordsIn r) table

@@ -35,6 +35,7 @@ pub use denote.Triple.Table.{cited}
 pub use denote.Exit.{yes}
 pub use Rattle.filling.proofs.Cells.{has, ref}
 pub use Rattle.filling.proofs.Straight.{Line, lends-on, refers, asks}
+pub use Rattle.filling.proofs.Calls.{POwn}
 pub use Rattle.filling.proofs.Carried.{Carried, struct-of, enum-of, uint-of}
 pub use Rattle.filling.proofs.Law.{lines, list-typed, slice-cell}
 pub use Rattle.filling.proofs.First.{made, over}

@@ -50,7 +50,7 @@ use Rattle.device.proofs.text_at.Met as core-thm
 use Rattle.working_table.specs.declared.Record.{Record}
 use Rattle.working_table.specs.Table.{recordsAfter}
 use Rattle.working_table.proofs.Rec.{R}
-use Rattle.filling.proofs.Calls.{POwn}
+use Rattle.working_table.proofs.Over.{POwn}
 use Rattle.device_pool.proofs.find_text as find
 use Rattle.device_pool.proofs.find_text.Symbol as find-def
 use Rattle.device_pool.proofs.find_text.Symbol.{name as #find}
