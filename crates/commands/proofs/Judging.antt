@@ -57,7 +57,8 @@ module _ {M : Type 1} (𝓤 : URA M) (H : Heap 𝓤) (𝓜 : Model 𝓤 H) (𝓖
       (λ κs qs a are l₀ l₁ l₂ l₃ l₄ l₅ l₆ l₇ l₈ l₉ l₁₀ l₁₁ l₁₂ l₁₃ l₁₄ l₁₅ l₁₆. (
         ((tt, (tt, (tt, (record { fits = are .0 .0 .1 .0 }, tt)))), ((tt, (tt, (tt, (record { fits = are .1 .0 .0 .1 .0 }, tt)))), ((tt, uint-lawful 𝓤 H A (givenOf 𝓤 H 𝓜 𝓖) w8 .typed (a .1 .1 .0) _ (are .1 .1 .0) .0), ((tt, uint-lawful 𝓤 H A (givenOf 𝓤 H 𝓜 𝓖) w16 .typed (a .1 .1 .1 .0) _ (are .1 .1 .1 .0) .0), ((tt, uint-lawful 𝓤 H A (givenOf 𝓤 H 𝓜 𝓖) w16 .typed (a .1 .1 .1 .1 .0) _ (are .1 .1 .1 .1 .0) .0), ((tt, sint-lawful 𝓤 H A (givenOf 𝓤 H 𝓜 𝓖) w32 .typed (a .1 .1 .1 .1 .1 .0) _ (are .1 .1 .1 .1 .1 .0) .0), tt)))))),
         (tt, tt, list-typed 𝓤 H A (givenOf 𝓤 H 𝓜 𝓖) (s .numbers), (refl, refl, tt, tt, (s .fits, tt, tt, refl, tt, tt, (tt, (_, tt, λ r. (s .fits, tt, tt, refl, tt, tt, (_, tt, λ r₁. (refl, refl, tt, tt, refl, refl, tt, tt, (_, tt, λ r₂ v. (_, tt, λ r₃. (tt, _))))))))))),
-        (l₇, refl)))
+        (l₇, refl),
+      ))
       (λ κs qs a l ν δ. known-core (((κs .0, (ν ∷ [], tt)), (qs .0, (fullShare, tt)), tt, (a .0, (length (a .1 .0 .now), (record { ptr = (l, 0); name = δ; now = replicate (s .numbers) 0 }, a .1 .1))), _), tt))
       (cited 𝓤 H (tripleOf 𝓤 H A count.signature (count.spec 𝓤 H A (𝓜 .mem) (𝓡 .run))) 𝓜 𝓡 env count-def.name count-def.routine calls-count (count-thm.met 𝓤 H 𝓜 𝓖 𝓡))
       (cited 𝓤 H (tripleOf 𝓤 H A answer.signature (answer.spec 𝓤 H A (𝓜 .mem) (𝓡 .run))) 𝓜 𝓡 env answer-def.name answer-def.routine calls-answer (answer-thm.met 𝓤 H 𝓜 𝓖 𝓡)) calls-gather

@@ -18,6 +18,18 @@ judge-spec 𝓤 H 𝓜 𝓖 𝓡 =
     6 short-def.name long-def.name (lends-table 9 10 ∷ asks short-def.name (1 ∷ 10 ∷ 3 ∷ 4 ∷ 5 ∷ 6 ∷ []) 0 ∷ []) (lends-table 11 12 ∷ asks long-def.name (1 ∷ 12 ∷ 3 ∷ 4 ∷ 5 ∷ 6 ∷ []) 0 ∷ []) refl
     (λ κs qs a are l₀ l₁ l₂ l₃ l₄ l₅ l₆ l₇ l₈ l₉ l₁₀ l₁₁ l₁₂. (
       ((tt, (tt, (tt, (record { fits = are .0 .0 .1 .0 }, tt)))), ((tt, (tt, (tt, (record { fits = are .1 .0 .0 .1 .0 }, tt)))), ((tt, uint-lawful 𝓤 H (𝓖 .A) (givenOf 𝓤 H 𝓜 𝓖) w8 .typed (a .1 .1 .0) _ (are .1 .1 .0) .0), ((tt, uint-lawful 𝓤 H (𝓖 .A) (givenOf 𝓤 H 𝓜 𝓖) w16 .typed (a .1 .1 .1 .0) _ (are .1 .1 .1 .0) .0), ((tt, uint-lawful 𝓤 H (𝓖 .A) (givenOf 𝓤 H 𝓜 𝓖) w16 .typed (a .1 .1 .1 .1 .0) _ (are .1 .1 .1 .1 .0) .0), ((tt, sint-lawful 𝓤 H (𝓖 .A) (givenOf 𝓤 H 𝓜 𝓖) w32 .typed (a .1 .1 .1 .1 .1 .0) _ (are .1 .1 .1 .1 .1 .0) .0), tt)))))),
-      refl, refl, tt, tt, refl, tt, tt, refl, (refl, refl, tt, tt, refl, refl, tt, tt, (_, tt, λ r. (tt, _))), (refl, refl, tt, tt, refl, refl, tt, tt, (_, tt, λ r. (tt, _))), refl, refl))
+      refl,
+      refl,
+      tt,
+      tt,
+      refl,
+      tt,
+      tt,
+      refl,
+      (refl, refl, tt, tt, refl, refl, tt, tt, (_, tt, λ r. (tt, _))),
+      (refl, refl, tt, tt, refl, refl, tt, tt, (_, tt, λ r. (tt, _))),
+      refl,
+      refl,
+    ))
     (cited 𝓤 H (Judging 𝓤 H 𝓜 𝓖 𝓡 (short 𝓤 .asks)) 𝓜 𝓡 code.env short-def.name short-def.routine code.calls-commands·judge-short (short-thm.met 𝓤 H 𝓜 𝓖 𝓡))
     (cited 𝓤 H (Judging 𝓤 H 𝓜 𝓖 𝓡 (long 𝓤 .asks)) 𝓜 𝓡 code.env long-def.name long-def.routine code.calls-commands·judge-long (long-thm.met 𝓤 H 𝓜 𝓖 𝓡))

@@ -17,6 +17,18 @@ labels-spec 𝓤 H 𝓜 𝓖 𝓡 =
     2 short-def.name long-def.name (lends-table 5 6 ∷ asks short-def.name (1 ∷ 6 ∷ []) 0 ∷ []) (lends-table 7 8 ∷ asks long-def.name (1 ∷ 8 ∷ []) 0 ∷ []) refl
     (λ κs qs a are l₀ l₁ l₂ l₃ l₄ l₅ l₆ l₇ l₈. (
       ((tt, (tt, (tt, (record { fits = are .0 .0 .1 .0 }, tt)))), ((tt, (tt, (tt, (record { fits = are .1 .0 .0 .1 .0 }, tt)))), tt)),
-      refl, refl, tt, tt, refl, tt, tt, refl, (refl, refl, tt, tt, refl, refl, tt, tt, (_, tt, λ r. (tt, _))), (refl, refl, tt, tt, refl, refl, tt, tt, (_, tt, λ r. (tt, _))), refl, refl))
+      refl,
+      refl,
+      tt,
+      tt,
+      refl,
+      tt,
+      tt,
+      refl,
+      (refl, refl, tt, tt, refl, refl, tt, tt, (_, tt, λ r. (tt, _))),
+      (refl, refl, tt, tt, refl, refl, tt, tt, (_, tt, λ r. (tt, _))),
+      refl,
+      refl,
+    ))
     (cited 𝓤 H (Labelling 𝓤 H 𝓜 𝓖 𝓡 (short 𝓤 .asks)) 𝓜 𝓡 code.env short-def.name short-def.routine code.calls-device-pool·labels-short (short-thm.met 𝓤 H 𝓜 𝓖 𝓡))
     (cited 𝓤 H (Labelling 𝓤 H 𝓜 𝓖 𝓡 (long 𝓤 .asks)) 𝓜 𝓡 code.env long-def.name long-def.routine code.calls-device-pool·labels-long (long-thm.met 𝓤 H 𝓜 𝓖 𝓡))
