@@ -1,6 +1,6 @@
 -- Rule 12's walk: what stands in the list of DDIs seen, and what that says of the tags. Assumes nothing.
 use mathlib.Core.Path.{_≡_, refl, sym, ap, _∙_}
-use mathlib.Core.Bool.{Bool, true, false}
+use mathlib.Core.Bool.{true, false}
 use mathlib.Core.Logic.{_⊎_, inl, inr, ⊎-elim}
 use mathlib.Core.List.{List}
 use Prim.Native.Nat.{ℕ, zero, suc, _+_, _<_, _≤_}
@@ -8,7 +8,6 @@ use native.Mathlib.Nat.{eq-or-lt-of-le}
 use native.Mathlib.Decide.{decLt}
 use native.Mathlib.Omega.{arith}
 use borrow.Author.Tests.{ne-eqb}
-use lib.Dec.{eqb}
 use lib.ListN.{length, getD, set}
 use lib.Seq.{getD-set-same, getD-set-other}
 use Rattle.naming.specs.Naming.{among}
@@ -67,21 +66,16 @@ pub earlier : (tag : ℕ → ℕ) (m j : ℕ) → (tag m ≡ 0 → ⊥) → j < 
 unfolding doubled
 earlier tag m j t l e = rw (ne-eqb (tag m) 0 t, some-among tag (tag m) m j l e)
 
-tagged : (x : ℕ) → eqb (suc x) 0 ≡ false
-tagged x = ne-eqb (suc x) 0 (λ (e : suc x ≡ 0). omega arith)
-
 -- an entry whose DDI has been seen doubles one
 pub met : (tag : ℕ → ℕ) (m : ℕ) (seen : List ℕ) (kept k end x : ℕ) → Seen tag m seen kept → tag m ≡ suc x → end ≤ kept → Holds seen k end x → doubled tag m ≡ true
-unfolding doubled
 met tag m seen kept k end x s e b h =
     let d : (j : ℕ) × (j < m) × (tag j ≡ suc x) = s .some x (record { at = h .at; after = omega arith; before = omega (arith, h .before); is = h .is }) in
-    rw (e, tagged x, some-among tag (suc x) m (d .0) (d .1) (d .2))
+    earlier tag m (d .0) (λ (z : tag m ≡ 0). omega (arith, e, z)) (d .1) (d .2 ∙ sym e)
 
 -- and one that has not doubles none
 pub unmet : (tag : ℕ → ℕ) (m : ℕ) (seen : List ℕ) (kept x : ℕ) → Seen tag m seen kept → tag m ≡ suc x → (Holds seen 0 kept x → ⊥) → doubled tag m ≡ false
-unfolding doubled
 unmet tag m seen kept x s e h =
-    rw (e, tagged x, among-none tag (suc x) m (λ (j : ℕ) (l : j < m) (q : tag j ≡ suc x). h (s .all x j l q)))
+    lone tag m (λ (z : tag m ≡ 0). omega (arith, e, z)) (λ (j : ℕ) (l : j < m) (q : tag j ≡ tag m). h (s .all x j l (q ∙ e)))
 
 -- ---- the list of DDIs seen, after one entry more
 

@@ -2,7 +2,7 @@
 use mathlib.Core.Path.{_≡_, refl, sym, ap, _∙_}
 use mathlib.Core.Bool.{Bool, true, false, _||_}
 use mathlib.Core.List.{List}
-use Prim.Native.Nat.{ℕ, zero, suc, _+_, _*_, _<_, _/_, _%_, _^_, max}
+use Prim.Native.Nat.{ℕ, zero, suc, _*_, _<_, _/_, _%_, _^_, max}
 use native.Mathlib.Nat.{mod-lt, mod-eq-of-lt, div-one, div-self, div-eq-of-lt, mul-div-mul-right, mul-mod-left, mul-add-mod-self-right, zero-div, zero-lt-suc, pow-suc, one-mul}
 use native.Mathlib.Decide.{ℕ-discrete}
 use native.Mathlib.Omega.{arith}

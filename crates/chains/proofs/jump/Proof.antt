@@ -1,5 +1,4 @@
 -- `chains::jump` meets its contract: the numbers above r have been doubled. Assumes nothing.
-use Prim.Native.Nat.{_+_, _-_}
 use native.Mathlib.Omega.{arith}
 use Rattle.chains.proofs.Jumping.{Jumping, jump-start, jump-more, jump-end}
 use Rattle.chains.proofs.jump.Statement.{statement}

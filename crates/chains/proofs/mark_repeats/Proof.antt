@@ -1,7 +1,7 @@
 -- `chains::mark_repeats` meets its contract. Assumes nothing.
 use native.Mathlib.Omega.{arith}
 use borrow.Author.Needs.{needs}
-use Rattle.naming.proofs.Lists.{blank, long}
+use Rattle.naming.proofs.Lists.{blank}
 use Rattle.chains.proofs.mark_repeats.Statement.{statement}
 use Rattle.chains.proofs.mark_repeats.Tie as tie
 

@@ -1,11 +1,11 @@
 -- `chains::parents` meets its contract: the records with numbers below r have been stepped from. Assumes nothing.
 use mathlib.Core.Path.{_≡_, refl, sym, subst}
-use mathlib.Core.Bool.{not, _||_, false}
+use mathlib.Core.Bool.{not, _||_}
 use mathlib.Core.Logic.{⊎-elim}
 use Prim.Native.Nat.{ℕ, _+_, _-_, _≤_, _<_}
 use native.Mathlib.Omega.{arith}
 use lib.Dec.{eqb}
-use lib.ListN.{length, getD, set, length-set}
+use lib.ListN.{length, set, length-set}
 use Rattle.pool.specs.Walk.{entriesOf}
 use Rattle.pool.proofs.Starts.{entries-long}
 use Rattle.naming.specs.Naming.{parentOf}

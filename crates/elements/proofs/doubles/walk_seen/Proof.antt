@@ -1,16 +1,15 @@
 -- `elements::doubles::walk_seen` meets its contract: the walk over the entries, and inside it the walk over the DDIs kept. Assumes nothing.
 use mathlib.Core.Path.{_≡_, refl, sym, ap, _∙_, subst}
-use mathlib.Core.List.{List, [], _∷_}
-use Prim.Native.Nat.{ℕ, suc, _+_, _-_, _≤_}
+use mathlib.Core.List.{[], _∷_}
+use Prim.Native.Nat.{ℕ, _+_, _-_, _≤_}
 use native.Mathlib.Omega.{arith}
-use lib.ListN.{length, getD}
 use Rattle.pool.specs.Walk.{entriesOf}
 use Rattle.faults.specs.Rows.{many}
 use Rattle.faults.specs.Emission.{Puts}
 use Rattle.faults.proofs.Emission.{puts-few, puts-length}
 use Rattle.naming.specs.Naming.{named, tagOf}
 use Rattle.naming.proofs.Names.{named-inside}
-use Rattle.rules.specs.Table.{doubled, entryNamed}
+use Rattle.rules.specs.Table.{doubled}
 use Rattle.elements.specs.Lists.{entryTag, Holds}
 use Rattle.elements.proofs.Seen.{holds-none, holds-here, holds-one, holds-nowhere}
 use Rattle.elements.proofs.Walking.{Walking, walk-start, walk-plain, walk-met, walk-new}
