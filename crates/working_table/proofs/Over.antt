@@ -33,6 +33,7 @@ pub use denote.Triple.Spec.{tripleOf}
 pub use denote.Triple.Statement.{Contract, Triple}
 pub use denote.Triple.Table.{cited}
 pub use denote.Exit.{yes}
+pub use Rattle.filling.proofs.Local.{repeats-are, repeats-typed, big-lit}
 pub use Rattle.filling.proofs.Cells.{has, ref}
 pub use Rattle.filling.proofs.Straight.{Line, lends-on, refers, asks}
 pub use Rattle.filling.proofs.Calls.{POwn, pool-copied, copied-behind}

@@ -46,7 +46,7 @@ use Rattle.checker.proofs.Verdict.Laws as S′
 use Rattle.working_table.specs.declared.Record.{Record}
 use Rattle.working_table.specs.Table.{recordsAfter}
 use Rattle.working_table.proofs.Rec.{R}
-use Rattle.working_table.proofs.Gathering.{POwn}
+use Rattle.working_table.proofs.Over.{POwn}
 use Rattle.checker.proofs.check as core
 use Rattle.checker.proofs.check.Symbol as core-def
 use Rattle.checker.proofs.check.Symbol.{name as #core}

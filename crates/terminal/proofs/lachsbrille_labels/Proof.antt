@@ -44,7 +44,7 @@ use Rattle.device.proofs.DeviceLabels.Laws as S′
 use Rattle.working_table.specs.declared.Record.{Record}
 use Rattle.working_table.specs.Table.{recordsAfter}
 use Rattle.working_table.proofs.Rec.{R}
-use Rattle.working_table.proofs.Gathering.{POwn}
+use Rattle.working_table.proofs.Over.{POwn}
 use Rattle.device_pool.proofs.labels as core
 use Rattle.device_pool.proofs.labels.Symbol as core-def
 use Rattle.device_pool.proofs.labels.Symbol.{name as #core}

@@ -44,7 +44,7 @@ use Rattle.pool.proofs.Outcome.Laws as S′
 use Rattle.working_table.specs.declared.Record.{Record}
 use Rattle.working_table.specs.Table.{recordsAfter}
 use Rattle.working_table.proofs.Rec.{R}
-use Rattle.working_table.proofs.Gathering.{POwn}
+use Rattle.working_table.proofs.Over.{POwn}
 use Rattle.working_table.proofs.Reading.{Any, Reading, mach, reads}
 use Rattle.working_table.proofs.read.Symbol as core-def
 use Rattle.working_table.proofs.read.Symbol.{name as #core}

@@ -45,7 +45,7 @@ use Rattle.device.proofs.Place.Laws as S′
 use Rattle.working_table.specs.declared.Record.{Record}
 use Rattle.working_table.specs.Table.{recordsAfter}
 use Rattle.working_table.proofs.Rec.{R}
-use Rattle.working_table.proofs.Gathering.{POwn}
+use Rattle.working_table.proofs.Over.{POwn}
 use Rattle.device_pool.proofs.find_text as core
 use Rattle.device_pool.proofs.find_text.Symbol as core-def
 use Rattle.device_pool.proofs.find_text.Symbol.{name as #core}

@@ -47,7 +47,7 @@ use Rattle.judging.proofs.Judgement.Laws as S′
 use Rattle.working_table.specs.declared.Record.{Record}
 use Rattle.commands.specs.Tables.{judgedRecords}
 use Rattle.working_table.proofs.Rec.{R}
-use Rattle.working_table.proofs.Gathering.{POwn}
+use Rattle.working_table.proofs.Over.{POwn}
 use Rattle.commands.proofs.judge as core
 use Rattle.commands.proofs.judge.Symbol as core-def
 use Rattle.commands.proofs.judge.Symbol.{name as #core}
