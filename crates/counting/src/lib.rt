@@ -151,7 +151,7 @@ fn pass(
     requires { ⌜ Names (now p) (now starts) (now heads) (now next) × (i + 1 < length (now starts)) × (device ≡ firstOf (kindAt (entriesOf (now p) (now starts))) 1 (length (entriesOf (now p) (now starts)))) × Sighted (now p) (now starts) i (passed .full) (now numbers) (now again) (now endless) × (1024 ≤ length (now seen)) × (passed .n < 2 ^ 37) ⌝ }
     ensures { λ r. ⌜ Added (now (p .entry)) (now (starts .entry)) i (now (faults .entry)) (passed .n) (now (faults .exit)) (r .n) × Sighted (now (p .entry)) (now (starts .entry)) (i + 1) (r .full) (now (numbers .exit)) (now (again .exit)) (now (endless .exit)) ⌝ }
 {
-    let kind = records::view::kind(p, starts[i]);
+    let kind = naming::record_kind(p, starts, i);
     if kind == 2 {
         return pass_element(
             p,
@@ -252,7 +252,7 @@ fn count_short(p: &[u8], starts: &[u16], faults: &mut [u16]) -> usize
     requires { ⌜ Divided (now p) (now starts) × (length (now starts) ≤ 1025) ⌝ }
     ensures { λ r. ⌜ Emits (now (faults .entry)) 0 (breachesIn (now (p .entry)) (entriesOf (now (p .entry)) (now (starts .entry)))) (now (faults .exit)) r ⌝ }
 {
-    let mut heads = [0u16; 509];
+    let mut heads = [0u16; 521];
     let mut next = [0u16; 1025];
     naming::name_ids(p, starts, &mut heads, &mut next);
     let mut again = [0u8; 129];
@@ -265,7 +265,7 @@ fn count_long(p: &[u8], starts: &[u16], faults: &mut [u16]) -> usize
     requires { ⌜ Divided (now p) (now starts) ⌝ }
     ensures { λ r. ⌜ Emits (now (faults .entry)) 0 (breachesIn (now (p .entry)) (entriesOf (now (p .entry)) (now (starts .entry)))) (now (faults .exit)) r ⌝ }
 {
-    let mut heads = [0u16; 2039];
+    let mut heads = [0u16; 4079];
     let mut next = [0u16; 5462];
     naming::name_ids(p, starts, &mut heads, &mut next);
     let mut again = [0u8; 684];

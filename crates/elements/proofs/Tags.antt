@@ -18,6 +18,11 @@ ddi-read p starts (suc i) some l =
     let e : suc i - 1 ≡ i = omega arith in
     rw e (ap (λ (at : ℕ). numberAt 2 p (at + 5)) (start-read p starts i l))
 
+-- what is process data or a property has a number
+pub data-some : (es : List Entry) (r : ℕ) → isData (kindOf es r) ≡ true → r ≡ 0 → ⊥
+data-some es zero d e = let z : _≡_ {A = ℕ} 0 1 = cc in omega arith
+data-some es (suc i) d e = omega arith
+
 module _ (p : List ℕ) (es : List Entry) where
   pub tag-nothing : tagOf p es 0 ≡ 0
   unfolding tagOf

@@ -9,7 +9,7 @@ ghost use mathlib.Core.List.{[], _∷_, _++_};
 ghost use Prim.Native.Nat.{ℕ, _+_, _≤_, _<_, _^_};
 ghost use lib.Dec.{eqb};
 ghost use lib.ListN.{length};
-ghost use Rattle.pool.specs.Walk.{entriesOf};
+ghost use Rattle.pool.specs.Walk.{entriesOf, Divided};
 ghost use Rattle.faults.specs.Rows.{one, many};
 ghost use Rattle.faults.specs.Emission.{Puts};
 ghost use Rattle.naming.specs.Naming.{isData, kindOf, ddiOf, tagOf};
@@ -32,18 +32,15 @@ fn is_data(kind: u16) -> bool
 
 // The DDI of process data or a property, by the record's number.
 fn ddi_at(p: &[u8], starts: &[u16], number: u16) -> u16
-    requires { ⌜ number < length (now starts) ⌝ }
+    requires { ⌜ Divided (now p) (now starts) × (number ≡ 0 → ⊥) × (number < length (now starts)) ⌝ }
     ensures { λ r. ⌜ r ≡ ddiOf (now (p .entry)) (entriesOf (now (p .entry)) (now (starts .entry))) number ⌝ }
 {
-    if number == 0 {
-        return 0;
-    }
-    wire::read_u16(p, starts[number as usize - 1] as usize + 5)
+    wire::pair(p, starts[number as usize - 1] as usize + 5)
 }
 
 // 0 where a number stands for no process data or property, else its DDI and 1.
 pub fn tag_at(p: &[u8], starts: &[u16], number: u16) -> usize
-    requires { ⌜ number < length (now starts) ⌝ }
+    requires { ⌜ Divided (now p) (now starts) × (number < length (now starts)) ⌝ }
     ensures { λ r. ⌜ (r ≡ tagOf (now (p .entry)) (entriesOf (now (p .entry)) (now (starts .entry))) number) × (r ≤ 65536) ⌝ }
 {
     if is_data(naming::kind_at(p, starts, number)) {
@@ -53,14 +50,14 @@ pub fn tag_at(p: &[u8], starts: &[u16], number: u16) -> usize
 }
 
 fn is_wrong_parent(p: &[u8], starts: &[u16], parent: u16) -> bool
-    requires { ⌜ parent < length (now starts) ⌝ }
+    requires { ⌜ Divided (now p) (now starts) × (parent < length (now starts)) ⌝ }
     ensures { λ r. ⌜ r ≡ wrongKind (isParent (kindOf (entriesOf (now (p .entry)) (now (starts .entry))) parent)) parent ⌝ }
 {
     (parent != 0) & !is_parent(naming::kind_at(p, starts, parent))
 }
 
 fn is_wrong_entry(p: &[u8], starts: &[u16], named: u16) -> bool
-    requires { ⌜ named < length (now starts) ⌝ }
+    requires { ⌜ Divided (now p) (now starts) × (named < length (now starts)) ⌝ }
     ensures { λ r. ⌜ r ≡ wrongKind (isData (kindOf (entriesOf (now (p .entry)) (now (starts .entry))) named)) named ⌝ }
 {
     (named != 0) & !is_data(naming::kind_at(p, starts, named))

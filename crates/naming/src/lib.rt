@@ -7,7 +7,7 @@ ghost use Prim.Native.Nat.{suc, _+_, _≤_, _<_, _%_};
 ghost use lib.Dec.{eqb};
 ghost use lib.ListN.{length};
 ghost use Rattle.pool.specs.Walk.{entriesOf, Divided};
-ghost use Rattle.naming.specs.Records.{idAt};
+ghost use Rattle.naming.specs.Records.{idAt, kindAt};
 ghost use Rattle.naming.specs.Naming.{firstOf, named, kindOf, parentOf};
 ghost use Rattle.naming.specs.Lists.{idIn, Blank};
 ghost use Rattle.naming.specs.Chained.{Chained, Names};
@@ -18,11 +18,11 @@ fn remainder(id: u16, heads: usize) -> usize
     ensures { λ r. ⌜ r ≡ id % heads ⌝ }
 {
     let x = id as usize;
-    if heads == 2039 {
-        return x % 2039;
+    if heads == 4079 {
+        return x % 4079;
     }
-    if heads == 509 {
-        return x % 509;
+    if heads == 521 {
+        return x % 521;
     }
     x % heads
 }
@@ -101,15 +101,23 @@ pub fn repeats_id(p: &[u8], starts: &[u16], heads: &[u16], next: &[u16], i: usiz
     next[i + 1] == 65535
 }
 
+// The kind of record i.
+pub fn record_kind(p: &[u8], starts: &[u16], i: usize) -> u16
+    requires { ⌜ Divided (now p) (now starts) × (i + 1 < length (now starts)) ⌝ }
+    ensures { λ r. ⌜ r ≡ kindAt (entriesOf (now (p .entry)) (now (starts .entry))) i ⌝ }
+{
+    records::view::marked_kind(p, starts[i])
+}
+
 // The kind of the record with a number from 1; 0 for none.
 pub fn kind_at(p: &[u8], starts: &[u16], number: u16) -> u16
-    requires { ⌜ number < length (now starts) ⌝ }
+    requires { ⌜ Divided (now p) (now starts) × (number < length (now starts)) ⌝ }
     ensures { λ r. ⌜ r ≡ kindOf (entriesOf (now (p .entry)) (now (starts .entry))) number ⌝ }
 {
     if number == 0 {
         return 0;
     }
-    records::view::kind(p, starts[number as usize - 1])
+    records::view::marked_kind(p, starts[number as usize - 1])
 }
 
 // The number of the device element that the parent of the record with a number names, 0 where a chain ends.

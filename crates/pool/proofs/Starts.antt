@@ -5,9 +5,15 @@ use Prim.Native.Nat.{ℕ, zero, suc, _+_, _-_, _*_, _≤_, _<_}
 use native.Mathlib.Nat.{not-suc-le-zero}
 use native.Mathlib.Decide.{decLt}
 use native.Mathlib.Omega.{arith}
+use lib.Dec.{leb}
 use lib.ListN.{length, getD}
-use Rattle.records.specs.Extents.{extentOf}
-use Rattle.records.specs.declared.Extent.the-variants.{Ends}
+use Rattle.records.specs.Layout.{markNumber, markOf, three}
+use Rattle.records.specs.Extents.{markedEnd, extentOf}
+use Rattle.records.specs.declared.Kind.the-variants.{Dvc, Det, Dpd, Dpt, Dvp}
+use Rattle.records.specs.declared.Mark.{Mark}
+use Rattle.records.specs.declared.Mark.the-variants.{Of, Unknown}
+use Rattle.records.specs.declared.Extent.the-variants.{Ends, Cut}
+use Rattle.records.proofs.Range.{cut-ends, unmarked-ends, guarded}
 use Rattle.pool.specs.Reading.{Entry, entryAt, records, scanOf}
 use Rattle.pool.specs.Walk.{entriesFrom, entriesOf, Divided}
 use Rattle.pool.proofs.Steps.{Remaining, next-of, none-left, few-records}
@@ -102,3 +108,19 @@ module _ (p starts : List ℕ) (h : Divided p starts) where
 
   pub starts-within : (i : ℕ) → suc i < length starts → getD starts i 0 + 12 ≤ length p
   starts-within i l = let s = starts-stretch i l in omega (arith, s .later, s .within)
+
+  -- a mark stands where each starts
+  pub starts-marked : (i : ℕ) → suc i < length starts → markNumber (markOf (three p (getD starts i 0))) ≡ 0 → ⊥
+  unfolding extentOf
+  starts-marked i l z = go (markOf (three p (getD starts i 0))) refl z
+    where
+      go : (m : Mark) → markOf (three p (getD starts i 0)) ≡ m → markNumber m ≡ 0 → ⊥
+      go (Of Dvc) e n = omega arith
+      go (Of Det) e n = omega arith
+      go (Of Dpd) e n = omega arith
+      go (Of Dpt) e n = omega arith
+      go (Of Dvp) e n = omega arith
+      go Unknown e n =
+          let end = getD starts (suc i) 0 in
+          let f = guarded (leb (getD starts i 0 + 3) (length p)) (markedEnd (markOf (three p (getD starts i 0))) p (getD starts i 0 + 3)) Cut end cut-ends (starts-stretch i l .ends) in
+          unmarked-ends end (sym (ap (λ (m : Mark). markedEnd m p (getD starts i 0 + 3)) e) ∙ f .1)

@@ -1,9 +1,11 @@
 -- No mark stands where fewer than three bytes are left. Assumes nothing.
-use mathlib.Core.Path.{_≡_, refl, ap}
+use mathlib.Core.Path.{_≡_, refl, sym, ap, subst, _∙_}
 use mathlib.Core.Bool.{Bool, true, false, _&&_}
 use mathlib.Core.List.{List, [], _∷_}
-use Prim.Native.Nat.{ℕ, _+_, _<_}
+use Prim.Native.Nat.{ℕ, _+_, _≤_, _<_}
+use native.Mathlib.Decide.{ℕ-discrete, decLt}
 use native.Mathlib.Omega.{arith}
+use borrow.Author.Tests.{ne-eqb}
 use lib.Dec.{eqb}
 use lib.ListN.{length, getD, List·getD-eq-default}
 use Rattle.records.specs.Layout.{markNumber, mark, markOf, three}
@@ -24,3 +26,91 @@ kind-short p at h =
     let z : getD p (at + 2) 0 ≡ 0 = List·getD-eq-default p 0 (omega arith) in
     let m : markOf (three p at) ≡ Unknown = rw z (unmarked (getD p at 0) (getD p (at + 1) 0)) in
     ap markNumber m
+
+-- a mark takes three bytes
+pub mark-within : (p : List ℕ) (at : ℕ) → (markNumber (markOf (three p at)) ≡ 0 → ⊥) → at + 3 ≤ length p
+mark-within p at h = go (decLt (length p) (at + 3))
+  where
+    go : Dec (length p < at + 3) → at + 3 ≤ length p
+    go (yes l) = absurd (h (kind-short p at l))
+    go (no l) = omega arith
+
+-- what a mark is whose first letter is that of all
+abbrev Marked : ℕ → ℕ → ℕ → Type 0
+Marked a b c = markNumber (markOf (a ∷ b ∷ c ∷ [])) ≡ 0 → ⊥
+
+first-letter : (a b c : ℕ) → Marked a b c → a ≡ 68
+unfolding markOf mark
+first-letter a b c h = go (ℕ-discrete a 68)
+  where
+    go : Dec (a ≡ 68) → a ≡ 68
+    go (yes e) = e
+    go (no n) = absurd (h (rw (ne-eqb a 68 n)))
+
+module _ (c : ℕ) where
+  data-third : Marked 68 80 c → (c ≡ 68 → ⊥) → c ≡ 84
+  unfolding markOf mark
+  data-third h d = go (ℕ-discrete c 84)
+    where
+      go : Dec (c ≡ 84) → c ≡ 84
+      go (yes e) = e
+      go (no n) = absurd (h (rw (ne-eqb c 68 d, ne-eqb c 84 n)))
+
+  element-third : Marked 68 69 c → c ≡ 84
+  unfolding markOf mark
+  element-third h = go (ℕ-discrete c 84)
+    where
+      go : Dec (c ≡ 84) → c ≡ 84
+      go (yes e) = e
+      go (no n) = absurd (h (rw (ne-eqb c 84 n)))
+
+  device-third : Marked 68 86 c → (c ≡ 80 → ⊥) → c ≡ 67
+  unfolding markOf mark
+  device-third h d = go (ℕ-discrete c 67)
+    where
+      go : Dec (c ≡ 67) → c ≡ 67
+      go (yes e) = e
+      go (no n) = absurd (h (rw (ne-eqb c 67 n, ne-eqb c 80 d)))
+
+second-letter : (b c : ℕ) → Marked 68 b c → (b ≡ 80 → ⊥) → (b ≡ 69 → ⊥) → b ≡ 86
+unfolding markOf mark
+second-letter b c h p e = go (ℕ-discrete b 86)
+  where
+    go : Dec (b ≡ 86) → b ≡ 86
+    go (yes q) = q
+    go (no n) = absurd (h (rw (ne-eqb b 86 n, ne-eqb b 69 e, ne-eqb b 80 p)))
+
+-- the kind by the second and third letter of a mark
+module _ (a b c : ℕ) (h : Marked a b c) where
+  first : a ≡ 68
+  first = first-letter a b c h
+
+  pub kind-data : b ≡ 80 → c ≡ 68 → 3 ≡ markNumber (markOf (a ∷ b ∷ c ∷ []))
+  unfolding markOf mark
+  kind-data p d = rw (first, p, d)
+
+  pub kind-property : b ≡ 80 → (c ≡ 68 → ⊥) → 4 ≡ markNumber (markOf (a ∷ b ∷ c ∷ []))
+  unfolding markOf mark
+  kind-property p d =
+      let t : c ≡ 84 = data-third c (subst (λ (x : ℕ). Marked 68 x c) p (subst (λ (x : ℕ). Marked x b c) first h)) d in
+      rw (first, p, t)
+
+  pub kind-element : b ≡ 69 → 2 ≡ markNumber (markOf (a ∷ b ∷ c ∷ []))
+  unfolding markOf mark
+  kind-element p =
+      let t : c ≡ 84 = element-third c (subst (λ (x : ℕ). Marked 68 x c) p (subst (λ (x : ℕ). Marked x b c) first h)) in
+      rw (first, p, t)
+
+  module _ (p : b ≡ 80 → ⊥) (e : b ≡ 69 → ⊥) where
+    second : b ≡ 86
+    second = second-letter b c (subst (λ (x : ℕ). Marked x b c) first h) p e
+
+    pub kind-presentation : c ≡ 80 → 5 ≡ markNumber (markOf (a ∷ b ∷ c ∷ []))
+    unfolding markOf mark
+    kind-presentation t = rw (first, second, t)
+
+    pub kind-device : (c ≡ 80 → ⊥) → 1 ≡ markNumber (markOf (a ∷ b ∷ c ∷ []))
+    unfolding markOf mark
+    kind-device d =
+        let t : c ≡ 67 = device-third c (subst (λ (x : ℕ). Marked 68 x c) second (subst (λ (x : ℕ). Marked x b c) first h)) d in
+        rw (first, second, t)

@@ -27,6 +27,29 @@ pub fn kind(p: &[u8], at: u16) -> u16
     super::mark_number(super::mark_of(p[start], p[start + 1], p[start + 2]))
 }
 
+// The same where a mark stands: two of its letters tell it from the others.
+pub fn marked_kind(p: &[u8], at: u16) -> u16
+    requires { ⌜ (markNumber (markOf (three (now p) at)) ≡ 0 → ⊥) ⌝ }
+    ensures { λ r. ⌜ r ≡ markNumber (markOf (three (now (p .entry)) at)) ⌝ }
+{
+    let start = at as usize;
+    let second = p[start + 1];
+    let third = p[start + 2];
+    if second == b'P' {
+        if third == b'D' {
+            return 3;
+        }
+        return 4;
+    }
+    if second == b'E' {
+        return 2;
+    }
+    if third == b'P' {
+        return 5;
+    }
+    1
+}
+
 // The object ID, in a record of any kind.
 pub fn id(p: &[u8], at: u16) -> u16
     ensures { λ r. ⌜ r ≡ idOf (now (p .entry)) at ⌝ }

@@ -15,7 +15,7 @@ slice-aggregate-name-ids-2 : tie.Need-slice-aggregate-name-ids-2
 slice-aggregate-name-ids-2 c = search needs
 
 name-ids-requires : tie.Need-name-ids-requires
-name-ids-requires c κs = (c .before .before .before .before .before .pre, long 5462 _ (starts-few _ _ (c .before .before .before .before .before .pre)), long 2039 1 (omega arith), blank 2039)
+name-ids-requires c κs = (c .before .before .before .before .before .pre, long 5462 _ (starts-few _ _ (c .before .before .before .before .before .pre)), long 4079 1 (omega arith), blank 4079)
 
 slice-aggregate-put-all : tie.Need-slice-aggregate-put-all
 slice-aggregate-put-all c = search needs

@@ -14,7 +14,7 @@ slice-aggregate-name-ids-2 : tie.Need-slice-aggregate-name-ids-2
 slice-aggregate-name-ids-2 c = search needs
 
 name-ids-requires : tie.Need-name-ids-requires
-name-ids-requires c κs = (c .before .before .before .before .before .pre .0, long 1025 _ (c .before .before .before .before .before .pre .1), long 509 1 (omega arith), blank 509)
+name-ids-requires c κs = (c .before .before .before .before .before .pre .0, long 1025 _ (c .before .before .before .before .before .pre .1), long 521 1 (omega arith), blank 521)
 
 slice-aggregate-put-all : tie.Need-slice-aggregate-put-all
 slice-aggregate-put-all c = search needs

@@ -5,26 +5,22 @@ use native.Mathlib.Omega.{arith}
 use lib.ListN.{length}
 use Rattle.naming.specs.Records.{kindAt}
 use Rattle.pool.specs.Walk.{entriesOf}
-use Rattle.naming.proofs.Starts.{kind-is}
+use Rattle.naming.proofs.Names.{names-divided}
 use Rattle.counting.proofs.Sighting.{sighted-other}
 use borrow.Author.Needs.{needs}
 use Rattle.counting.proofs.pass.Statement.{statement}
 use Rattle.counting.proofs.pass.Tie as tie
 
-mul-kind : tie.Need-mul-kind
-mul-kind c = search needs
-
-shared-slice-read-kind : tie.Need-shared-slice-read-kind
-shared-slice-read-kind c = omega (arith, c .before .before .before .before .before .before .before .before .before .before .pre .1)
-
-kind-requires : tie.Need-kind-requires
-kind-requires c κs = search needs
+record-kind-requires : tie.Need-record-kind-requires
+record-kind-requires c κs =
+    let a = c .before .before .before .before .before .before .before .before .before .args in
+    (names-divided (a .p .now) (a .starts .now) (a .heads .now) (a .next .now) (c .before .before .before .before .before .before .before .before .before .pre .0), c .before .before .before .before .before .before .before .before .before .pre .1)
 
 pass-element-requires : tie.Need-pass-element-requires
 pass-element-requires c κs =
-    let a = c .before .before .before .before .before .before .before .before .before .before .before .before .before .before .before .before .before .args in
-    let l : suc (a .i) < length (a .starts .now) = omega (arith, c .before .before .before .before .before .before .before .before .before .before .before .before .before .before .before .before .before .pre .1) in
-    (c .before .before .before .before .before .before .before .before .before .before .before .before .before .before .before .before .before .pre .0, c .before .before .before .before .before .before .before .before .before .before .before .before .before .before .before .before .before .pre .1, sym (kind-is (a .p .now) (a .starts .now) (a .i) l) ∙ sym (c .before .before .before .before .before .before .kind .ensures) ∙ c .before .before .before .before .before .if1 .taken, c .before .before .before .before .before .before .before .before .before .before .before .before .before .before .before .before .before .pre .3, c .before .before .before .before .before .before .before .before .before .before .before .before .before .before .before .before .before .pre .4, c .before .before .before .before .before .before .before .before .before .before .before .before .before .before .before .before .before .pre .5)
+    let a = c .before .before .before .before .before .before .before .before .before .before .before .before .before .before .before .before .args in
+    let l : suc (a .i) < length (a .starts .now) = omega (arith, c .before .before .before .before .before .before .before .before .before .before .before .before .before .before .before .before .pre .1) in
+    (c .before .before .before .before .before .before .before .before .before .before .before .before .before .before .before .before .pre .0, c .before .before .before .before .before .before .before .before .before .before .before .before .before .before .before .before .pre .1, sym (c .before .before .before .before .before .before .record-kind .ensures) ∙ c .before .before .before .before .before .if1 .taken, c .before .before .before .before .before .before .before .before .before .before .before .before .before .before .before .before .pre .3, c .before .before .before .before .before .before .before .before .before .before .before .before .before .before .before .before .pre .4, c .before .before .before .before .before .before .before .before .before .before .before .before .before .before .before .before .pre .5)
 
 same-length : tie.Need-same-length
 same-length c = search needs
@@ -46,28 +42,26 @@ returns c = c .before .before .before .before .before .before .before .before .b
 
 put-other-requires : tie.Need-put-other-requires
 put-other-requires c κs =
-    let a = c .before .before .before .before .before .before .before .before .before .before .before .before .before .args in
-    let l : suc (a .i) < length (a .starts .now) = omega (arith, c .before .before .before .before .before .before .before .before .before .before .before .before .before .pre .1) in
-    (c .before .before .before .before .before .before .before .before .before .before .before .before .before .pre .0, c .before .before .before .before .before .before .before .before .before .before .before .before .before .pre .1, c .before .before .before .before .before .before .before .before .before .before .before .before .before .pre .2, c .before .before .kind .ensures ∙ kind-is (a .p .now) (a .starts .now) (a .i) l, c .before .if1 .left, c .before .before .before .before .before .before .before .before .before .before .before .before .before .pre .5)
+    let a = c .before .before .before .before .before .before .before .before .before .before .before .before .args in
+    let l : suc (a .i) < length (a .starts .now) = omega (arith, c .before .before .before .before .before .before .before .before .before .before .before .before .pre .1) in
+    (c .before .before .before .before .before .before .before .before .before .before .before .before .pre .0, c .before .before .before .before .before .before .before .before .before .before .before .before .pre .1, c .before .before .before .before .before .before .before .before .before .before .before .before .pre .2, c .before .before .record-kind .ensures, c .before .if1 .left, c .before .before .before .before .before .before .before .before .before .before .before .before .pre .5)
 
 same-length-6 : tie.Need-same-length-6
 same-length-6 c = search needs
 
 returns-2 : tie.Need-returns-2
 returns-2 c =
-    let a = c .before .before .before .before .before .before .before .before .before .before .before .before .before .before .before .before .args in
-    let l : suc (a .i) < length (a .starts .now) = omega (arith, c .before .before .before .before .before .before .before .before .before .before .before .before .before .before .before .before .pre .1) in (
+    let a = c .before .before .before .before .before .before .before .before .before .before .before .before .before .before .before .args in
+    let l : suc (a .i) < length (a .starts .now) = omega (arith, c .before .before .before .before .before .before .before .before .before .before .before .before .before .before .before .pre .1) in (
       record { puts = c .before .before .put-other .ensures .0; few = c .before .before .put-other .ensures .1 },
-      sighted-other (a .p .now) (a .starts .now) (a .i) (a .passed .full) (a .numbers .now) (a .again .now) (a .endless .now) (c .before .before .before .before .before .before .before .before .before .before .before .before .before .before .before .before .pre .3) (λ e. c .before .before .before .before .if1 .left (c .before .before .before .before .before .kind .ensures ∙ kind-is (a .p .now) (a .starts .now) (a .i) l ∙ e)),
+      sighted-other (a .p .now) (a .starts .now) (a .i) (a .passed .full) (a .numbers .now) (a .again .now) (a .endless .now) (c .before .before .before .before .before .before .before .before .before .before .before .before .before .before .before .pre .3) (λ e. c .before .before .before .before .if1 .left (c .before .before .before .before .before .record-kind .ensures ∙ e)),
     )
 
 pub pass-spec : {M : Type 1} → statement M
 pass-spec =
     tie.close
     (tie.spec
-    mul-kind
-    shared-slice-read-kind
-    kind-requires
+    record-kind-requires
     pass-element-requires
     same-length
     same-length-2

@@ -5,7 +5,7 @@ use native.Mathlib.Omega.{arith}
 use lib.ListN.{length}
 use Rattle.views.specs.Fields.{elementOf}
 use Rattle.pool.specs.Walk.{entriesOf}
-use Rattle.naming.proofs.Names.{named-inside}
+use Rattle.naming.proofs.Names.{names-divided, named-inside}
 use Rattle.naming.proofs.Starts.{start-read}
 use Rattle.counting.proofs.Sighting.{number-low, repeated-is, circling-is, sighted-element}
 use borrow.Author.Needs.{needs}
@@ -25,7 +25,7 @@ named-at-requires : tie.Need-named-at-requires
 named-at-requires c κs = search needs
 
 kind-at-requires : tie.Need-kind-at-requires
-kind-at-requires c κs = rw (c .named-at .ensures) (named-inside _ _ _ _ (c .before .before .before .before .before .before .before .before .before .before .before .before .pre .0) (c .before .device-element .result .parent))
+kind-at-requires c κs = (names-divided _ _ _ _ (c .before .before .before .before .before .before .before .before .before .before .before .before .pre .0), rw (c .named-at .ensures) (named-inside _ _ _ _ (c .before .before .before .before .before .before .before .before .before .before .before .before .pre .0) (c .before .device-element .result .parent)))
 
 is-unusual-requires : tie.Need-is-unusual-requires
 is-unusual-requires c κs = search needs

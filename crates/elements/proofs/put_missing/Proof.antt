@@ -12,7 +12,7 @@ use Rattle.faults.specs.Rows.{many}
 use Rattle.faults.specs.Emission.{Puts}
 use Rattle.faults.proofs.Emission.{puts-start, puts-turn, puts-few, puts-length}
 use Rattle.naming.specs.Naming.{named, kindOf, isData}
-use Rattle.naming.proofs.Names.{named-inside}
+use Rattle.naming.proofs.Names.{names-divided, named-inside}
 use Rattle.rules.specs.Table.{entryNamed}
 use Rattle.elements.specs.Lists.{entryTag}
 use Rattle.elements.proofs.Tags.{tag-other}
@@ -67,7 +67,7 @@ put-if-requires c κs = omega (arith, c .before .before .before .before .before 
 kind-at-requires : tie.Need-kind-at-requires Inv-loop μ-loop
 kind-at-requires c κs =
     let a = c .before .before .before .before .before .before .before .before .before .before .before .before .before .before .args in
-    rw (c .before .before .before .before .named-at .ensures) (named-inside (a .p .now) (a .starts .now) (a .heads .now) (a .next .now) (c .before .before .before .before .before .before .before .before .before .before .before .before .before .before .pre .0) (c .before .before .before .before .before .read-u16 .result))
+    (names-divided (a .p .now) (a .starts .now) (a .heads .now) (a .next .now) (c .before .before .before .before .before .before .before .before .before .before .before .before .before .before .pre .0), rw (c .before .before .before .before .named-at .ensures) (named-inside (a .p .now) (a .starts .now) (a .heads .now) (a .next .now) (c .before .before .before .before .before .before .before .before .before .before .before .before .before .before .pre .0) (c .before .before .before .before .before .read-u16 .result)))
 
 is-data-requires : tie.Need-is-data-requires Inv-loop μ-loop
 is-data-requires c κs = tt

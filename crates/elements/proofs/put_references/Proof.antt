@@ -1,6 +1,7 @@
 -- `elements::put_references` meets its contract. Assumes nothing.
 use mathlib.Core.Path.{_∙_}
 use native.Mathlib.Omega.{arith}
+use Rattle.naming.proofs.Names.{names-divided}
 use borrow.Author.Needs.{needs}
 use Rattle.faults.proofs.Emission.{puts-then, puts-length}
 use Rattle.elements.proofs.put_references.Statement.{statement}
@@ -13,7 +14,9 @@ put-missing-requires : tie.Need-put-missing-requires
 put-missing-requires c κs = search needs
 
 is-wrong-parent-requires : tie.Need-is-wrong-parent-requires
-is-wrong-parent-requires c κs = search needs
+is-wrong-parent-requires c κs =
+    let s = c .before .before .before .before .before .before .before .before .before .before .before .before .before in
+    (names-divided (s .args .p .now) (s .args .starts .now) (s .args .heads .now) (s .args .next .now) (s .pre .0), s .pre .1)
 
 put-if-requires-2 : tie.Need-put-if-requires-2
 put-if-requires-2 c κs = search needs

@@ -12,7 +12,7 @@ use Rattle.faults.specs.Emission.{Puts}
 use Rattle.faults.proofs.Emission.{puts-start, puts-turn, puts-few, puts-length}
 use Rattle.faults.proofs.Clearing.{puts-clear}
 use Rattle.naming.specs.Naming.{named, kindOf, isData}
-use Rattle.naming.proofs.Names.{named-inside}
+use Rattle.naming.proofs.Names.{names-divided, named-inside}
 use Rattle.rules.specs.Table.{wrongKind, entryNamed}
 use Rattle.elements.proofs.put_wrong.Statement.{statement}
 use Rattle.elements.proofs.put_wrong.Tie as tie
@@ -51,7 +51,7 @@ named-at-requires c κs = c .before .before .before .before .before .before .bef
 is-wrong-entry-requires : tie.Need-is-wrong-entry-requires Inv-loop μ-loop
 is-wrong-entry-requires c κs =
     let a = c .before .before .before .before .before .before .before .before .before .before .before .args in
-    rw (c .named-at .ensures) (named-inside (a .p .now) (a .starts .now) (a .heads .now) (a .next .now) (c .before .before .before .before .before .before .before .before .before .before .before .pre .1) (c .before .read-u16 .result))
+    (names-divided (a .p .now) (a .starts .now) (a .heads .now) (a .next .now) (c .before .before .before .before .before .before .before .before .before .before .before .pre .1), rw (c .named-at .ensures) (named-inside (a .p .now) (a .starts .now) (a .heads .now) (a .next .now) (c .before .before .before .before .before .before .before .before .before .before .before .pre .1) (c .before .read-u16 .result)))
 
 add-put-if : tie.Need-add-put-if Inv-loop μ-loop
 add-put-if c = omega (arith, c .before .before .before .before .loop-test .taken, c .before .before .before .before .before .before .before .before .before .before .before .before .before .pre .2)

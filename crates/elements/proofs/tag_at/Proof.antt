@@ -4,7 +4,7 @@ use native.Mathlib.Omega.{arith}
 use borrow.Author.Needs.{needs}
 use Rattle.pool.specs.Walk.{entriesOf}
 use Rattle.naming.specs.Naming.{isData}
-use Rattle.elements.proofs.Tags.{tag-data, tag-other}
+use Rattle.elements.proofs.Tags.{data-some, tag-data, tag-other}
 use Rattle.elements.proofs.tag_at.Statement.{statement}
 use Rattle.elements.proofs.tag_at.Tie as tie
 
@@ -15,7 +15,10 @@ is-data-requires : tie.Need-is-data-requires
 is-data-requires c κs = search needs
 
 ddi-at-requires : tie.Need-ddi-at-requires
-ddi-at-requires c κs = search needs
+ddi-at-requires c κs =
+    let s = c .before .before .before .before .before in
+    let es = entriesOf (s .args .p .now) (s .args .starts .now) in
+    (s .pre .0, data-some es (s .args .number) (ap isData (sym (c .before .before .kind-at .ensures)) ∙ sym (c .before .is-data .ensures) ∙ c .if1 .taken), s .pre .1)
 
 cast-result : tie.Need-cast-result
 cast-result c = search needs

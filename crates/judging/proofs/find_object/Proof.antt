@@ -9,7 +9,7 @@ use Rattle.pool.specs.Walk.{entriesOf}
 use Rattle.naming.specs.Naming.{named, tagOf}
 use Rattle.naming.proofs.First.{Without}
 use Rattle.naming.proofs.Looking.{none-yet, none-more}
-use Rattle.naming.proofs.Names.{named-inside}
+use Rattle.naming.proofs.Names.{names-divided, named-inside}
 use Rattle.judging.proofs.Found.{tagNamed, object-here, object-none}
 use borrow.Author.Needs.{needs}
 use Rattle.judging.proofs.find_object.Statement.{statement}
@@ -36,7 +36,7 @@ named-at-requires c κs = c .before .before .before .before .before .before .bef
 tag-at-requires : tie.Need-tag-at-requires Inv-loop μ-loop
 tag-at-requires c κs =
     let a = c .before .before .before .before .before .before .before .before .before .args in
-    rw (c .named-at .ensures) (named-inside (a .p .now) (a .starts .now) (a .heads .now) (a .next .now) (c .before .before .before .before .before .before .before .before .before .pre) (c .before .entry .result))
+    (names-divided (a .p .now) (a .starts .now) (a .heads .now) (a .next .now) (c .before .before .before .before .before .before .before .before .before .pre), rw (c .named-at .ensures) (named-inside (a .p .now) (a .starts .now) (a .heads .now) (a .next .now) (c .before .before .before .before .before .before .before .before .before .pre) (c .before .entry .result)))
 
 add-if1 : tie.Need-add-if1 Inv-loop μ-loop
 add-if1 c = omega (arith, c .before .before .before .before .before .before .before .before .before .before .fits .ddi .fits)

@@ -15,7 +15,7 @@ slice-aggregate-name-ids-2 : tie.Need-slice-aggregate-name-ids-2
 slice-aggregate-name-ids-2 c = search needs
 
 name-ids-requires : tie.Need-name-ids-requires
-name-ids-requires c κs = (c .before .before .before .before .pre, long 5462 _ (starts-few (c .before .before .before .before .args .p .now) (c .before .before .before .before .args .starts .now) (c .before .before .before .before .pre)), long 2039 1 (omega arith), blank 2039)
+name-ids-requires c κs = (c .before .before .before .before .pre, long 5462 _ (starts-few (c .before .before .before .before .args .p .now) (c .before .before .before .before .args .starts .now) (c .before .before .before .before .pre)), long 4079 1 (omega arith), blank 4079)
 
 slice-aggregate-judge-named : tie.Need-slice-aggregate-judge-named
 slice-aggregate-judge-named c = search needs

@@ -1,5 +1,9 @@
 -- `naming::kind_at` meets its contract. Assumes nothing.
-use mathlib.Core.Path.{_∙_}
+use mathlib.Core.Path.{_≡_, _∙_}
+use Prim.Native.Nat.{suc, _-_, _<_}
+use native.Mathlib.Omega.{arith}
+use lib.ListN.{length}
+use Rattle.pool.proofs.Starts.{starts-marked}
 use Rattle.naming.proofs.Starts.{kind-read}
 use borrow.Author.Needs.{needs}
 use Rattle.naming.proofs.kind_at.Statement.{statement}
@@ -8,23 +12,29 @@ use Rattle.naming.proofs.kind_at.Tie as tie
 returns : tie.Need-returns
 returns c = search needs
 
-sub-kind : tie.Need-sub-kind
-sub-kind c = search needs
+sub-marked-kind : tie.Need-sub-marked-kind
+sub-marked-kind c = search needs
 
-mul-kind : tie.Need-mul-kind
-mul-kind c = search needs
+mul-marked-kind : tie.Need-mul-marked-kind
+mul-marked-kind c = search needs
 
-shared-slice-read-kind : tie.Need-shared-slice-read-kind
-shared-slice-read-kind c = search needs
+shared-slice-read-marked-kind : tie.Need-shared-slice-read-marked-kind
+shared-slice-read-marked-kind c = search needs
 
-kind-requires : tie.Need-kind-requires
-kind-requires c κs = search needs
+marked-kind-requires : tie.Need-marked-kind-requires
+marked-kind-requires c κs =
+    starts-marked (c .before .before .before .before .args .p .now) (c .before .before .before .before .args .starts .now) (c .before .before .before .before .pre .0) (c .before .before .before .before .args .number - 1) (omega (arith, c .before .before .before .before .pre .1, c .before .if1 .left))
 
 returns-2 : tie.Need-returns-2
-returns-2 c =
-    let s = c .before .before .before .before .before in
-    c .kind .ensures ∙ kind-read (s .args .p .now) (s .args .starts .now) (s .args .number) (c .before .before .if1 .left) (s .pre)
+returns-2 c = c .marked-kind .ensures ∙ kind-read (c .before .before .before .before .before .args .p .now) (c .before .before .before .before .before .args .starts .now) (c .before .before .before .before .before .args .number) (c .before .before .if1 .left) (c .before .before .before .before .before .pre .1)
 
 pub kind-at-spec : {M : Type 1} → statement M
 kind-at-spec =
-    tie.close (tie.spec returns sub-kind mul-kind shared-slice-read-kind kind-requires returns-2)
+    tie.close
+    (tie.spec
+    returns
+    sub-marked-kind
+    mul-marked-kind
+    shared-slice-read-marked-kind
+    marked-kind-requires
+    returns-2)

@@ -7,13 +7,16 @@ use Rattle.views.specs.Fields.{elementOf}
 use Rattle.naming.specs.Naming.{named}
 use Rattle.pool.specs.Walk.{entriesOf}
 use Rattle.naming.proofs.Starts.{start-read, named-listed}
+use Rattle.naming.proofs.Names.{names-divided}
 use Rattle.naming.proofs.Parents.{kind-some, parent-none, parent-some, parent-other}
 use borrow.Author.Needs.{needs}
 use Rattle.naming.proofs.parent_at.Statement.{statement}
 use Rattle.naming.proofs.parent_at.Tie as tie
 
 kind-at-requires : tie.Need-kind-at-requires
-kind-at-requires c κs = search needs
+kind-at-requires c κs =
+    let s = c .before .before .before .before in
+    (names-divided (s .args .p .now) (s .args .starts .now) (s .args .heads .now) (s .args .next .now) (s .pre .0), s .pre .1)
 
 returns : tie.Need-returns
 returns c =
@@ -40,7 +43,7 @@ named-at-requires c κs = search needs
 kind-at-requires-2 : tie.Need-kind-at-requires-2
 kind-at-requires-2 c κs =
     let s = c .before .before .before .before .before .before .before .before .before in
-    rw (c .named-at .ensures) (named-listed (s .args .p .now) (s .args .starts .now) _ (omega (arith, s .pre .1)))
+    (names-divided (s .args .p .now) (s .args .starts .now) (s .args .heads .now) (s .args .next .now) (s .pre .0), rw (c .named-at .ensures) (named-listed (s .args .p .now) (s .args .starts .now) _ (omega (arith, s .pre .1))))
 
 returns-2 : tie.Need-returns-2
 returns-2 c =

@@ -6,7 +6,7 @@ use native.Mathlib.Omega.{arith}
 use lib.ListN.{length, length-set}
 use Rattle.pool.specs.Walk.{entriesOf}
 use Rattle.naming.specs.Naming.{named, tagOf}
-use Rattle.naming.proofs.Names.{named-inside}
+use Rattle.naming.proofs.Names.{names-divided, named-inside}
 use Rattle.rules.specs.Table.{entryNamed}
 use Rattle.rules.proofs.Truth.{untrue}
 use Rattle.fields.proofs.Clearing.{Placed, placed-none, placed-more, neither}
@@ -36,7 +36,7 @@ named-at-requires : tie.Need-named-at-requires Inv-loop μ-loop
 named-at-requires c κs = c .before .before .before .before .before .before .before .before .pre .0
 
 tag-at-requires : tie.Need-tag-at-requires Inv-loop μ-loop
-tag-at-requires c κs = rw (c .named-at .ensures) (named-inside _ _ _ _ (c .before .before .before .before .before .before .before .before .before .pre .0) (c .before .pair .result))
+tag-at-requires c κs = (names-divided _ _ _ _ (c .before .before .before .before .before .before .before .before .before .pre .0), rw (c .named-at .ensures) (named-inside _ _ _ _ (c .before .before .before .before .before .before .before .before .before .pre .0) (c .before .pair .result)))
 
 mul-if1 : tie.Need-mul-if1 Inv-loop μ-loop
 mul-if1 c = omega arith

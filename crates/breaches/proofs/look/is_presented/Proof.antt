@@ -4,7 +4,7 @@ use mathlib.Core.Logic.{⊎-elim}
 use borrow.Author.Tests.{eqb-true}
 use Rattle.pool.specs.Walk.{entriesOf}
 use Rattle.naming.specs.Naming.{kindOf}
-use Rattle.naming.proofs.Names.{named-inside}
+use Rattle.naming.proofs.Names.{names-divided, named-inside}
 use Rattle.rules.proofs.Truth.{either}
 use Rattle.breaches.proofs.Looking.{none-presented, right-presented}
 use borrow.Author.Needs.{needs}
@@ -15,7 +15,7 @@ named-at-requires : tie.Need-named-at-requires
 named-at-requires c κs = search needs
 
 kind-at-requires : tie.Need-kind-at-requires
-kind-at-requires c κs = rw (c .named-at .ensures) (named-inside _ _ _ _ (c .before .before .before .before .before .pre) (c .before .before .before .before .before .args .id))
+kind-at-requires c κs = (names-divided _ _ _ _ (c .before .before .before .before .before .pre), rw (c .named-at .ensures) (named-inside _ _ _ _ (c .before .before .before .before .before .pre) (c .before .before .before .before .before .args .id)))
 
 returns : tie.Need-returns
 returns c e =

@@ -1,7 +1,7 @@
 -- `breaches::other::put_presented` meets its contract. Assumes nothing.
 use native.Mathlib.Omega.{arith}
 use Rattle.pool.specs.Walk.{entriesOf}
-use Rattle.naming.proofs.Names.{named-inside}
+use Rattle.naming.proofs.Names.{names-divided, named-inside}
 use Rattle.breaches.proofs.Rows.{presented}
 use borrow.Author.Needs.{needs}
 use Rattle.breaches.proofs.other.put_presented.Statement.{statement}
@@ -11,7 +11,7 @@ named-at-requires : tie.Need-named-at-requires
 named-at-requires c κs = search needs
 
 kind-at-requires : tie.Need-kind-at-requires
-kind-at-requires c κs = rw (c .named-at .ensures) (named-inside _ _ _ _ (c .before .before .before .before .before .before .pre .0) (c .before .before .before .before .before .before .args .id))
+kind-at-requires c κs = (names-divided _ _ _ _ (c .before .before .before .before .before .before .pre .0), rw (c .named-at .ensures) (named-inside _ _ _ _ (c .before .before .before .before .before .before .pre .0) (c .before .before .before .before .before .before .args .id)))
 
 put-presentation-requires : tie.Need-put-presentation-requires
 put-presentation-requires c κs = search needs

@@ -8,7 +8,7 @@ use Rattle.faults.specs.Rows.{many}
 use Rattle.faults.specs.Emission.{Puts}
 use Rattle.faults.proofs.Emission.{puts-few, puts-length}
 use Rattle.naming.specs.Naming.{named, tagOf}
-use Rattle.naming.proofs.Names.{named-inside}
+use Rattle.naming.proofs.Names.{names-divided, named-inside}
 use Rattle.rules.specs.Table.{doubled}
 use Rattle.elements.specs.Lists.{entryTag, Holds}
 use Rattle.elements.proofs.Seen.{holds-none, holds-here, holds-one, holds-nowhere}
@@ -51,7 +51,7 @@ named-at-requires c κs = c .before .before .before .before .before .before .bef
 tag-at-requires : tie.Need-tag-at-requires Inv-loop μ-loop Inv-entries μ-entries
 tag-at-requires c κs =
     let a = c .before .before .before .before .before .before .before .before .before .before .before .args in
-    rw (c .named-at .ensures) (named-inside (a .p .now) (a .starts .now) (a .heads .now) (a .next .now) (c .before .before .before .before .before .before .before .before .before .before .before .pre .0) (c .before .read-u16 .result))
+    (names-divided (a .p .now) (a .starts .now) (a .heads .now) (a .next .now) (c .before .before .before .before .before .before .before .before .before .before .before .pre .0), rw (c .named-at .ensures) (named-inside (a .p .now) (a .starts .now) (a .heads .now) (a .next .now) (c .before .before .before .before .before .before .before .before .before .before .before .pre .0) (c .before .read-u16 .result)))
 
 add-m : tie.Need-add-m Inv-loop μ-loop Inv-entries μ-entries
 add-m c = omega (arith, c .before .before .before .entries-test .taken, c .before .before .before .before .before .before .before .before .before .before .before .before .pre .2)

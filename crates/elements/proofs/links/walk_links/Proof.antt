@@ -12,7 +12,7 @@ use Rattle.faults.specs.Emission.{Puts}
 use Rattle.faults.proofs.Emission.{puts-few, puts-length}
 use Rattle.views.specs.Fields.{entryOf}
 use Rattle.naming.specs.Naming.{named, tagOf}
-use Rattle.naming.proofs.Names.{named-inside, names-some}
+use Rattle.naming.proofs.Names.{names-divided, named-inside, names-some}
 use Rattle.rules.specs.Table.{doubled, entryNamed}
 use Rattle.elements.specs.Lists.{entryTag}
 use Rattle.elements.proofs.Tags.{tag-nothing, tag-ddi}
@@ -23,14 +23,14 @@ use Rattle.elements.proofs.links.walk_links.Tie as tie
 
 abbrev Inv-loop : tie.InvT-loop
 Inv-loop p starts heads next at tops links size number faults₀ count from n₀ tagged m named tag b k₀ faults n k =
-    (faults ≡ faults₀) × (n ≡ n₀) × ((q : ℕ) → m ≡ q + 1 → Walks (entryNamed p (entriesOf p starts) at) (tagOf p (entriesOf p starts)) 1021 q tag k) × (k < length starts)
+    (faults ≡ faults₀) × (n ≡ n₀) × ((q : ℕ) → m ≡ q + 1 → Walks (entryNamed p (entriesOf p starts) at) (tagOf p (entriesOf p starts)) 2039 q tag k) × (k < length starts)
 
 abbrev μ-loop : tie.MeasureT-loop
 μ-loop p starts heads next at tops links size number faults₀ count from n₀ tagged m named tag b k₀ faults n k = place (entryNamed p (entriesOf p starts) at) size k
 
 abbrev Inv-entries : tie.InvT-entries
 Inv-entries p starts heads next at tops₀ links₀ size number faults₀ count from n₀ tagged₀ m₀ tops links faults n tagged m =
-    Linking (entryNamed p (entriesOf p starts) at) (tagOf p (entriesOf p starts)) 1021 number size links₀ faults₀ count tops links faults n tagged m
+    Linking (entryNamed p (entriesOf p starts) at) (tagOf p (entriesOf p starts)) 2039 number size links₀ faults₀ count tops links faults n tagged m
 
 abbrev μ-entries : tie.MeasureT-entries
 μ-entries p starts heads next at tops₀ links₀ size number faults₀ count from n₀ tagged₀ m₀ tops links faults n tagged m = size - m
@@ -42,7 +42,7 @@ entries-holds : tie.Need-entries-holds Inv-loop μ-loop Inv-entries μ-entries
 entries-holds c =
     let a = c .before .before .before .before .before .before .before .before .args in
     let es = entriesOf (a .p .now) (a .starts .now) in
-    link-start (entryNamed (a .p .now) es (a .at)) (tagOf (a .p .now) es) (tag-nothing (a .p .now) es) 1021 (a .number) (a .size) (a .links .now) (a .faults .now) (a .count) (a .tops .now) (omega arith) (c .before .before .before .before .before .before .before .before .pre .1) (c .before .before .before .before .before .before .before .before .pre .2)
+    link-start (entryNamed (a .p .now) es (a .at)) (tagOf (a .p .now) es) (tag-nothing (a .p .now) es) 2039 (a .number) (a .size) (a .links .now) (a .faults .now) (a .count) (a .tops .now) (omega arith) (c .before .before .before .before .before .before .before .before .pre .1) (c .before .before .before .before .before .before .before .before .pre .2)
 
 mul-read-u16 : tie.Need-mul-read-u16 Inv-loop μ-loop Inv-entries μ-entries
 mul-read-u16 c = omega (arith, c .entries-test .taken, c .before .before .before .before .before .before .before .before .before .before .pre .4)
@@ -59,7 +59,7 @@ named-at-requires c κs = c .before .before .before .before .before .before .bef
 tag-at-requires : tie.Need-tag-at-requires Inv-loop μ-loop Inv-entries μ-entries
 tag-at-requires c κs =
     let a = c .before .before .before .before .before .before .before .before .before .before .before .before .args in
-    rw (c .named-at .ensures) (named-inside (a .p .now) (a .starts .now) (a .heads .now) (a .next .now) (c .before .before .before .before .before .before .before .before .before .before .before .before .pre .0) (c .before .read-u16 .result))
+    (names-divided (a .p .now) (a .starts .now) (a .heads .now) (a .next .now) (c .before .before .before .before .before .before .before .before .before .before .before .before .pre .0), rw (c .named-at .ensures) (named-inside (a .p .now) (a .starts .now) (a .heads .now) (a .next .now) (c .before .before .before .before .before .before .before .before .before .before .before .before .pre .0) (c .before .read-u16 .result)))
 
 add-m : tie.Need-add-m Inv-loop μ-loop Inv-entries μ-entries
 add-m c = omega (arith, c .before .before .before .entries-test .taken, c .before .before .before .before .before .before .before .before .before .before .before .before .before .pre .4)
@@ -77,7 +77,7 @@ entries-again c =
     let none = tag-nothing (a .p .now) es in
     let names : c .before .before .named-at .result ≡ entry (v .m) = c .before .before .named-at .ensures ∙ ap (named es) (c .before .before .before .read-u16 .ensures ∙ sym (c .before .before .before .before .before .before .entries-from .ensures .0 (v .m))) in
     let is : c .before .tag-at .result ≡ mark (entry (v .m)) = c .before .tag-at .ensures .0 ∙ ap mark names in
-    link-plain entry mark none 1021 (a .number) (a .size) (a .links .now) (a .faults .now) (a .count) (v .tops) (v .links) (v .faults) (v .n) (v .tagged) (v .m) (c .before .before .before .before .entries-test .taken) (v .inv) (sym is ∙ c .if1 .taken)
+    link-plain entry mark none 2039 (a .number) (a .size) (a .links .now) (a .faults .now) (a .count) (v .tops) (v .links) (v .faults) (v .n) (v .tagged) (v .m) (c .before .before .before .before .entries-test .taken) (v .inv) (sym is ∙ c .if1 .taken)
 
 add-tagged : tie.Need-add-tagged Inv-loop μ-loop Inv-entries μ-entries
 add-tagged c = omega (arith, c .before .before .before .before .before .entries .inv .few, c .before .before .before .before .entries-test .taken, c .before .before .before .before .before .before .before .before .before .before .before .before .before .before .pre .4)
@@ -96,12 +96,14 @@ loop-holds c =
     let entry : ℕ → ℕ = entryNamed (a .p .now) es (a .at) in
     let mark : ℕ → ℕ = tagOf (a .p .now) es in
     let none = tag-nothing (a .p .now) es in
-    let start = walk-begins entry mark none (v .m) 1021 (v .tops) (v .links) (v .inv .linked) (c .before .before .tag-at .result) in
+    let start = walk-begins entry mark none (v .m) 2039 (v .tops) (v .links) (v .inv .linked) (c .before .before .tag-at .result) in
     let below = at-below entry (length (a .starts .now)) (names-some (a .p .now) (a .starts .now) (a .heads .now) (a .next .now) (c .before .before .before .before .before .before .before .before .before .before .before .before .before .before .before .pre .0)) (λ (j : ℕ). named-inside (a .p .now) (a .starts .now) (a .heads .now) (a .next .now) (c .before .before .before .before .before .before .before .before .before .before .before .before .before .before .before .pre .0) (entryOf (a .p .now) (a .at) j)) (start .stands) in
-    (refl, refl, λ (q : ℕ) (e : v .m + 1 ≡ q + 1). subst (λ (m : ℕ). Walks entry mark 1021 m (c .before .before .tag-at .result) (getD (v .tops) (c .before .before .tag-at .result % 1021) 0)) (omega (arith, e)) start, rw (start .is) below)
+    (refl, refl, λ (q : ℕ) (e : v .m + 1 ≡ q + 1). subst (λ (m : ℕ). Walks entry mark 2039 m (c .before .before .tag-at .result) (getD (v .tops) (c .before .before .tag-at .result % 2039) 0)) (omega (arith, e)) start, rw (start .is) below)
 
 ddi-at-requires : tie.Need-ddi-at-requires Inv-loop μ-loop Inv-entries μ-entries
-ddi-at-requires c κs = c .before .loop .inv .3
+ddi-at-requires c κs =
+    let s = c .before .before .before .before .before .before .before .before .before .before .before .before .before .before .before .before .before in
+    (names-divided (s .args .p .now) (s .args .starts .now) (s .args .heads .now) (s .args .next .now) (s .pre .0), c .loop-test .taken, c .before .loop .inv .3)
 
 cast-if2 : tie.Need-cast-if2 Inv-loop μ-loop Inv-entries μ-entries
 cast-if2 c = omega arith
@@ -132,9 +134,9 @@ entries-again-2 c =
     let names : c .before .before .before .before .before .before .before .before .before .before .before .named-at .result ≡ entry (v .m) = c .before .before .before .before .before .before .before .before .before .before .before .named-at .ensures ∙ ap (named es) (c .before .before .before .before .before .before .before .before .before .before .before .before .read-u16 .ensures ∙ sym (c .before .before .before .before .before .before .before .before .before .before .before .before .before .before .before .entries-from .ensures .0 (v .m))) in
     let is : c .before .before .before .before .before .before .before .before .before .before .tag-at .result ≡ mark (entry (v .m)) = c .before .before .before .before .before .before .before .before .before .before .tag-at .ensures .0 ∙ ap mark names in
     let l = c .before .before .before .before .before .before .before .loop in
-    let walks : Walks entry mark 1021 (v .m) (c .before .before .before .before .before .before .before .before .before .before .tag-at .result) (l .k) = l .inv .2 (v .m) refl in
-    let found : mark (l .k) ≡ c .before .before .before .before .before .before .before .before .before .before .tag-at .result = omega (arith, tag-ddi (a .p .now) es (l .k) (standing-tagged entry mark none (v .m) 1021 (c .before .before .before .before .before .before .before .before .before .before .tag-at .result) (l .k) (c .before .before .before .before .before .before .loop-test .taken) walks), c .before .before .before .before .before .ddi-at .ensures, c .before .before .before .before .if2 .taken) in
-    link-met entry mark none 1021 (a .number) (a .size) (a .links .now) (a .faults .now) (a .count) (v .tops) (v .links) (v .faults) (v .n) (v .tagged) (v .m) (c .before .before .before .before .before .before .before .before .before .before .before .before .before .entries-test .taken) (v .inv) (c .before .before .before .before .before .before .before .before .before .before .tag-at .result) (sym is) (c .before .before .before .before .before .before .before .before .before .if1 .left) (l .k) (1 + (v .m + 1)) _ _ (c .before .before .before .before .before .before .loop-test .taken) walks found (omega arith) (rw (← l .inv .0, ← l .inv .1) (c .before .before .put-if .ensures .0))
+    let walks : Walks entry mark 2039 (v .m) (c .before .before .before .before .before .before .before .before .before .before .tag-at .result) (l .k) = l .inv .2 (v .m) refl in
+    let found : mark (l .k) ≡ c .before .before .before .before .before .before .before .before .before .before .tag-at .result = omega (arith, tag-ddi (a .p .now) es (l .k) (standing-tagged entry mark none (v .m) 2039 (c .before .before .before .before .before .before .before .before .before .before .tag-at .result) (l .k) (c .before .before .before .before .before .before .loop-test .taken) walks), c .before .before .before .before .before .ddi-at .ensures, c .before .before .before .before .if2 .taken) in
+    link-met entry mark none 2039 (a .number) (a .size) (a .links .now) (a .faults .now) (a .count) (v .tops) (v .links) (v .faults) (v .n) (v .tagged) (v .m) (c .before .before .before .before .before .before .before .before .before .before .before .before .before .entries-test .taken) (v .inv) (c .before .before .before .before .before .before .before .before .before .before .tag-at .result) (sym is) (c .before .before .before .before .before .before .before .before .before .if1 .left) (l .k) (1 + (v .m + 1)) _ _ (c .before .before .before .before .before .before .loop-test .taken) walks found (omega arith) (rw (← l .inv .0, ← l .inv .1) (c .before .before .put-if .ensures .0))
 
 cast-k : tie.Need-cast-k Inv-loop μ-loop Inv-entries μ-entries
 cast-k c = omega arith
@@ -154,7 +156,7 @@ loop-less c =
     let mark : ℕ → ℕ = tagOf (a .p .now) es in
     let none = tag-nothing (a .p .now) es in
     let l = c .before .before .before .before .loop in
-    walk-falls entry mark none (v .m) 1021 (v .tops) (v .links) (v .inv .linked) (c .before .before .before .before .before .before .before .tag-at .result) (l .k) (c .before .before .before .loop-test .taken) (l .inv .2 (v .m) refl) (a .size) (v .inv .within)
+    walk-falls entry mark none (v .m) 2039 (v .tops) (v .links) (v .inv .linked) (c .before .before .before .before .before .before .before .tag-at .result) (l .k) (c .before .before .before .loop-test .taken) (l .inv .2 (v .m) refl) (a .size) (v .inv .within)
 
 loop-again : tie.Need-loop-again Inv-loop μ-loop Inv-entries μ-entries
 loop-again c =
@@ -165,11 +167,11 @@ loop-again c =
     let mark : ℕ → ℕ = tagOf (a .p .now) es in
     let none = tag-nothing (a .p .now) es in
     let l = c .before .before .before .before .loop in
-    let walks : Walks entry mark 1021 (v .m) (c .before .before .before .before .before .before .before .tag-at .result) (l .k) = l .inv .2 (v .m) refl in
-    let other : mark (l .k) ≡ c .before .before .before .before .before .before .before .tag-at .result → ⊥ = λ (e : mark (l .k) ≡ c .before .before .before .before .before .before .before .tag-at .result). c .before .if2 .left (omega (arith, e, tag-ddi (a .p .now) es (l .k) (standing-tagged entry mark none (v .m) 1021 (c .before .before .before .before .before .before .before .tag-at .result) (l .k) (c .before .before .before .loop-test .taken) walks), c .before .before .ddi-at .ensures)) in
-    let on = walk-goes entry mark none (v .m) 1021 (v .tops) (v .links) (v .inv .linked) (c .before .before .before .before .before .before .before .tag-at .result) (l .k) (c .before .before .before .loop-test .taken) walks other in
+    let walks : Walks entry mark 2039 (v .m) (c .before .before .before .before .before .before .before .tag-at .result) (l .k) = l .inv .2 (v .m) refl in
+    let other : mark (l .k) ≡ c .before .before .before .before .before .before .before .tag-at .result → ⊥ = λ (e : mark (l .k) ≡ c .before .before .before .before .before .before .before .tag-at .result). c .before .if2 .left (omega (arith, e, tag-ddi (a .p .now) es (l .k) (standing-tagged entry mark none (v .m) 2039 (c .before .before .before .before .before .before .before .tag-at .result) (l .k) (c .before .before .before .loop-test .taken) walks), c .before .before .ddi-at .ensures)) in
+    let on = walk-goes entry mark none (v .m) 2039 (v .tops) (v .links) (v .inv .linked) (c .before .before .before .before .before .before .before .tag-at .result) (l .k) (c .before .before .before .loop-test .taken) walks other in
     let below = at-below entry (length (a .starts .now)) (names-some (a .p .now) (a .starts .now) (a .heads .now) (a .next .now) (c .before .before .before .before .before .before .before .before .before .before .before .before .before .before .before .before .before .before .before .before .pre .0)) (λ (j : ℕ). named-inside (a .p .now) (a .starts .now) (a .heads .now) (a .next .now) (c .before .before .before .before .before .before .before .before .before .before .before .before .before .before .before .before .before .before .before .before .pre .0) (entryOf (a .p .now) (a .at) j)) (on .stands) in
-    (l .inv .0, l .inv .1, λ (q : ℕ) (e : v .m + 1 ≡ q + 1). subst (λ (m : ℕ). Walks entry mark 1021 m (c .before .before .before .before .before .before .before .tag-at .result) (getD (v .links) (l .k) 0)) (omega (arith, e)) on, rw (on .is) below)
+    (l .inv .0, l .inv .1, λ (q : ℕ) (e : v .m + 1 ≡ q + 1). subst (λ (m : ℕ). Walks entry mark 2039 m (c .before .before .before .before .before .before .before .tag-at .result) (getD (v .links) (l .k) 0)) (omega (arith, e)) on, rw (on .is) below)
 
 mul-links : tie.Need-mul-links Inv-loop μ-loop Inv-entries μ-entries
 mul-links c = omega (arith, mod-lt (c .before .before .before .before .tag-at .result) (c .before .before .before .before .before .before .before .before .entries .inv .linked .some))
@@ -208,8 +210,8 @@ entries-again-3 c =
     let names : c .before .before .before .before .before .before .named-at .result ≡ entry (v .m) = c .before .before .before .before .before .before .named-at .ensures ∙ ap (named es) (c .before .before .before .before .before .before .before .read-u16 .ensures ∙ sym (c .before .before .before .before .before .before .before .before .before .before .entries-from .ensures .0 (v .m))) in
     let is : c .before .before .before .before .before .tag-at .result ≡ mark (entry (v .m)) = c .before .before .before .before .before .tag-at .ensures .0 ∙ ap mark names in
     let l = c .before .before .loop in
-    let without = walks-out entry mark none (v .m) 1021 (c .before .before .before .before .before .tag-at .result) (l .k) (c .before .loop-test .left) (c .before .before .before .before .if1 .left) (l .inv .2 (v .m) refl) in
-    rw (l .inv .0, l .inv .1) (link-new entry mark none 1021 (a .number) (a .size) (a .links .now) (a .faults .now) (a .count) (v .tops) (v .links) (v .faults) (v .n) (v .tagged) (v .m) (c .before .before .before .before .before .before .before .before .entries-test .taken) (v .inv) (c .before .before .before .before .before .tag-at .result) (sym is) (c .before .before .before .before .if1 .left) without (c .before .before .before .before .before .before .named-at .result) names (omega (arith, c .before .before .before .before .before .before .named-at .ensures, named-inside (a .p .now) (a .starts .now) (a .heads .now) (a .next .now) (c .before .before .before .before .before .before .before .before .before .before .before .before .before .before .before .before .before .before .pre .0) (c .before .before .before .before .before .before .before .read-u16 .result), c .before .before .before .before .before .before .before .before .before .before .before .before .before .before .before .before .before .before .pre .3)))
+    let without = walks-out entry mark none (v .m) 2039 (c .before .before .before .before .before .tag-at .result) (l .k) (c .before .loop-test .left) (c .before .before .before .before .if1 .left) (l .inv .2 (v .m) refl) in
+    rw (l .inv .0, l .inv .1) (link-new entry mark none 2039 (a .number) (a .size) (a .links .now) (a .faults .now) (a .count) (v .tops) (v .links) (v .faults) (v .n) (v .tagged) (v .m) (c .before .before .before .before .before .before .before .before .entries-test .taken) (v .inv) (c .before .before .before .before .before .tag-at .result) (sym is) (c .before .before .before .before .if1 .left) without (c .before .before .before .before .before .before .named-at .result) names (omega (arith, c .before .before .before .before .before .before .named-at .ensures, named-inside (a .p .now) (a .starts .now) (a .heads .now) (a .next .now) (c .before .before .before .before .before .before .before .before .before .before .before .before .before .before .before .before .before .before .pre .0) (c .before .before .before .before .before .before .before .read-u16 .result), c .before .before .before .before .before .before .before .before .before .before .before .before .before .before .before .before .before .before .pre .3)))
 
 same-length : tie.Need-same-length Inv-loop μ-loop Inv-entries μ-entries
 same-length c = c .before .entries .inv .linked .wide ∙ sym (c .before .before .before .before .before .before .before .before .before .before .pre .1)
