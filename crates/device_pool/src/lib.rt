@@ -14,9 +14,9 @@ ghost use Rattle.checker.specs.Checking.{countOf};
 ghost use Rattle.device.specs.Queries.{textNumber, textOf, Finds, Labelled};
 
 // An answer, beside how many records are listed.
-struct Found {
-    records: usize,
-    place: Place,
+pub struct Found {
+    pub records: usize,
+    pub place: Place,
 }
 
 struct Shown {
@@ -24,13 +24,13 @@ struct Shown {
     labels: DeviceLabels,
 }
 
-fn found_records(found: Found) -> usize
+pub fn found_records(found: Found) -> usize
     ensures { λ r. ⌜ r ≡ found .records ⌝ }
 {
     found.records
 }
 
-fn found_place(found: Found) -> Place
+pub fn found_place(found: Found) -> Place
     ensures { λ r. ⌜ r ≡ found .place ⌝ }
 {
     found.place
@@ -49,7 +49,7 @@ fn shown_labels(shown: Shown) -> DeviceLabels
 }
 
 // Finds a text by a list that reaches for every record. Of the faults only the count matters, so the buffer for them has room for one.
-fn find_by(p: &[u8], room: usize, starts: &mut [u16], id: u16) -> Found
+pub fn find_by(p: &[u8], room: usize, starts: &mut [u16], id: u16) -> Found
     requires { ⌜ Reaches (now starts) (now p) ⌝ }
     ensures { λ r. ⌜ Finds (now (p .entry)) room id (r .place) × (r .records ≡ countOf (now (p .entry)) room) × Listed (now (p .entry)) room (now (starts .exit)) ⌝ }
 {
@@ -116,7 +116,7 @@ fn labels_by(p: &[u8], room: usize, starts: &mut [u16]) -> Shown
 }
 
 // By a list for a pool of at most 12,288 bytes, and by one for every pool.
-fn labels_short(p: &[u8], table: &mut [Record]) -> DeviceLabels
+pub fn labels_short(p: &[u8], table: &mut [Record]) -> DeviceLabels
     requires { ⌜ length (now p) ≤ 12288 ⌝ }
     ensures { λ r. ⌜ Labelled (now (p .entry)) (length (now (table .entry))) r × (now (table .exit) ≡ recordsAfter (now (p .entry)) (now (table .entry))) ⌝ }
 {
@@ -126,7 +126,7 @@ fn labels_short(p: &[u8], table: &mut [Record]) -> DeviceLabels
     shown_labels(shown)
 }
 
-fn labels_long(p: &[u8], table: &mut [Record]) -> DeviceLabels
+pub fn labels_long(p: &[u8], table: &mut [Record]) -> DeviceLabels
     ensures { λ r. ⌜ Labelled (now (p .entry)) (length (now (table .entry))) r × (now (table .exit) ≡ recordsAfter (now (p .entry)) (now (table .entry))) ⌝ }
 {
     let mut starts = [0u16; 5462];

@@ -6,6 +6,7 @@ use working_table::Record;
 pub mod display;
 pub mod exchange;
 pub mod logs;
+mod pools;
 pub mod sessions;
 
 ghost use mathlib.Core.Path.{_≡_};
@@ -23,8 +24,10 @@ ghost use Rattle.terminal.specs.Texts.{Gives};
 pub extern "C" fn lachsbrille_read(p: &[u8], table: &mut [Record], value: &mut usize) -> u32
     ensures { λ r. ⌜ Says (readOf (now (p .entry)) (length (now (table .entry)))) r (now (value .exit)) × (now (table .exit) ≡ recordsAfter (now (p .entry)) (now (table .entry))) ⌝ }
 {
-    let outcome = working_table::read(p, table);
-    answers::give_outcome(outcome, value)
+    if p.len() <= 12288 {
+        return pools::read_short(p, table, value);
+    }
+    pools::read_long(p, table, value)
 }
 
 // Checks a pool: the full count of faults or the refusal's place goes into the lent number.
@@ -37,8 +40,10 @@ pub extern "C" fn lachsbrille_check(
 ) -> u32
     ensures { λ r. ⌜ Says (checkOf (now (p .entry)) (length (now (table .entry)))) r (now (value .exit)) × (now (table .exit) ≡ recordsAfter (now (p .entry)) (now (table .entry))) × (now (faults .exit) ≡ faultsAfter (now (p .entry)) (length (now (table .entry))) (now (faults .entry))) ⌝ }
 {
-    let verdict = checker::check(p, table, faults);
-    answers::give_verdict(verdict, value)
+    if p.len() <= 12288 {
+        return pools::check_short(p, table, faults, value);
+    }
+    pools::check_long(p, table, faults, value)
 }
 
 // Whether a text keeps rule 4.
@@ -60,8 +65,10 @@ pub extern "C" fn lachsbrille_text(
 ) -> u32
     ensures { λ r. ⌜ Gives (now (p .entry)) (length (now (table .entry))) id r (now (from .exit)) (now (to .exit)) × (now (table .exit) ≡ recordsAfter (now (p .entry)) (now (table .entry))) ⌝ }
 {
-    let place = device_pool::find_text(p, table, id);
-    answers::give_place(place, from, to)
+    if p.len() <= 12288 {
+        return pools::text_short(p, table, id, from, to);
+    }
+    pools::text_long(p, table, id, from, to)
 }
 
 // The labels of the device, as a struct by value.
@@ -69,5 +76,8 @@ pub extern "C" fn lachsbrille_text(
 pub extern "C" fn lachsbrille_labels(p: &[u8], table: &mut [Record]) -> DeviceLabels
     ensures { λ r. ⌜ Labelled (now (p .entry)) (length (now (table .entry))) r × (now (table .exit) ≡ recordsAfter (now (p .entry)) (now (table .entry))) ⌝ }
 {
-    device_pool::labels(p, table)
+    if p.len() <= 12288 {
+        return device_pool::labels_short(p, table);
+    }
+    device_pool::labels_long(p, table)
 }

@@ -134,26 +134,29 @@ gathered-part a s starts (suc n) table within =
         row-there s starts n h ∙ sym (row-there (take a s) starts n h ∙ ap recordOf (entry-part a s (getD starts n 0) (getD starts (suc n) 0) (within n (omega arith))))
     row-part (no h) = row-past s starts n (omega arith) ∙ sym (row-past (take a s) starts n (omega arith))
 
--- the same by what reading answers
-pub read-gathers : (p starts : List ℕ) (r : Outcome) (table : List Record) → answerOf r ≡ readOf p (length table) → Listed p (length table) starts → Gathers p starts (recordsIn r) table
-read-gathers p starts r table e listed = listed-gathers p starts (recordsIn r) table listed (λ z. counts r (ap (λ (a : Answer). a .number) e ∙ z) ∙ ap (λ (a : Answer). a .value) e) (λ z. none-in r (λ y. z (sym (ap (λ (a : Answer). a .number) e) ∙ y)))
-  where
-    counts : (r : Outcome) → answerOf r .number ≡ 0 → recordsIn r ≡ answerOf r .value
-    counts (Records n) z = refl
-    counts Empty z = omega arith
-    counts TooLong z = omega arith
-    counts (NoMark at) z = omega arith
-    counts (Cut at) z = omega arith
-    counts (LengthOver at) z = omega arith
-    counts TooMany z = omega arith
-    counts (TableShort n) z = omega arith
+-- what reading answers says how many entries are filled
+pub outcome-counts : (r : Outcome) → answerOf r .number ≡ 0 → recordsIn r ≡ answerOf r .value
+outcome-counts (Records n) z = refl
+outcome-counts Empty z = omega arith
+outcome-counts TooLong z = omega arith
+outcome-counts (NoMark at) z = omega arith
+outcome-counts (Cut at) z = omega arith
+outcome-counts (LengthOver at) z = omega arith
+outcome-counts TooMany z = omega arith
+outcome-counts (TableShort n) z = omega arith
 
-    none-in : (r : Outcome) → (answerOf r .number ≡ 0 → ⊥) → recordsIn r ≡ 0
-    none-in (Records n) z = absurd (z refl)
-    none-in Empty z = refl
-    none-in TooLong z = refl
-    none-in (NoMark at) z = refl
-    none-in (Cut at) z = refl
-    none-in (LengthOver at) z = refl
-    none-in TooMany z = refl
-    none-in (TableShort n) z = refl
+pub outcome-none : (r : Outcome) → (answerOf r .number ≡ 0 → ⊥) → recordsIn r ≡ 0
+outcome-none (Records n) z = absurd (z refl)
+outcome-none Empty z = refl
+outcome-none TooLong z = refl
+outcome-none (NoMark at) z = refl
+outcome-none (Cut at) z = refl
+outcome-none (LengthOver at) z = refl
+outcome-none TooMany z = refl
+outcome-none (TableShort n) z = refl
+
+pub read-gathers : (p starts : List ℕ) (r : Outcome) (table : List Record) → answerOf r ≡ readOf p (length table) → Listed p (length table) starts → Gathers p starts (recordsIn r) table
+read-gathers p starts r table e listed =
+    listed-gathers p starts (recordsIn r) table listed
+    (λ z. outcome-counts r (ap (λ (a : Answer). a .number) e ∙ z) ∙ ap (λ (a : Answer). a .value) e)
+    (λ z. outcome-none r (λ y. z (sym (ap (λ (a : Answer). a .number) e) ∙ y)))

@@ -33,11 +33,12 @@ pub use denote.Triple.Spec.{tripleOf}
 pub use denote.Triple.Statement.{Contract, Triple}
 pub use denote.Triple.Table.{cited}
 pub use denote.Exit.{yes}
+pub use Rattle.filling.proofs.Local.{repeats-are, repeats-typed, big-lit}
 pub use Rattle.filling.proofs.Cells.{has, ref}
 pub use Rattle.filling.proofs.Straight.{Line, lends-on, refers, asks}
-pub use Rattle.filling.proofs.Calls.{POwn}
+pub use Rattle.filling.proofs.Calls.{POwn, pool-copied, copied-behind}
 pub use Rattle.filling.proofs.Carried.{Carried, struct-of, enum-of, uint-of}
-pub use Rattle.filling.proofs.Law.{lines, list-typed, slice-cell}
+pub use Rattle.filling.proofs.Law.{lines, list-typed, pool-slot, slice-cell, fills-table}
 pub use Rattle.filling.proofs.First.{made, over}
 pub use Rattle.working_table.specs.Rows.{gathered}
 pub use Rattle.working_table.proofs.Rec.{R}

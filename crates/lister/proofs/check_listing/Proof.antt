@@ -59,7 +59,7 @@ use Rattle.working_table.specs.Rows.{spreadOver}
 use Rattle.working_table.proofs.Record as T
 use Rattle.working_table.proofs.Record.Laws as T′
 use Rattle.working_table.proofs.Rec.{R, vals, mach, makes, typed}
-use Rattle.working_table.proofs.Local.{repeats-are, repeats-typed, big-lit}
+use Rattle.working_table.proofs.Over.{repeats-are, repeats-typed, big-lit}
 use Rattle.working_table.proofs.spread as spread
 use Rattle.working_table.proofs.spread.Symbol as spread-def
 use Rattle.working_table.proofs.spread.Symbol.{name as #spread}

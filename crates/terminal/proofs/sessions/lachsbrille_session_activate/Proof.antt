@@ -39,7 +39,7 @@ use denote.Triple.Walked.{says, Stays, gave-slice, stay-none-slice, stay-none, w
 use denote.Exit.{yes}
 use Rattle.working_table.specs.declared.Record.{Record}
 use Rattle.working_table.proofs.Rec.{R}
-use Rattle.working_table.proofs.Gathering.{POwn}
+use Rattle.working_table.proofs.Over.{POwn}
 use Rattle.session.specs.Calls.{stepOf}
 use Rattle.activation.specs.Activating.{activateOf, keptAfter, activatedRecords}
 use Rattle.session.specs.declared.Session.{Session}
