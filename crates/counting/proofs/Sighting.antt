@@ -57,6 +57,31 @@ module _ (p starts : List ℕ) where
         falling = λ e. subst (Falling p es) (behind i) (falling-other p es i (w .falling e) other);
       }
 
+  -- a device element whose number is over 4095 has all records marked before rule 8 is judged
+  module _ (i : ℕ) (l : suc i < length starts) (own : kindAt (entriesOf p starts) i ≡ 2) (e : DeviceElement) (is : e ≡ elementOf p (startAt (entriesOf p starts) i))
+      (before : Bool) (numbers again endless : List ℕ) (w : Sighted p starts i before numbers again endless) (over : Bool) (again′ endless′ : List ℕ)
+      (marked : over ≡ true → Marked p starts again′ endless′) (plain : over ≡ false → (before ≡ false) × (ltb 4095 (e .number) ≡ false)) where
+    pub number-low : over ≡ false → e .number < 4096
+    number-low f = omega (arith, ltb-false 4095 (e .number) (plain f .1))
+
+    number-is : elementKey p (entriesOf p starts) i ≡ suc (e .number)
+    number-is = element-key p (entriesOf p starts) i own ∙ ap (λ (x : DeviceElement). suc (x .number)) (sym is)
+
+    -- rule 8
+    pub repeated-is : (r : Bool) → (over ≡ true → r ≡ bitAt again′ i) → (over ≡ false → r ≡ bitAt numbers (e .number))
+        → r ≡ repeats (elementKey p (entriesOf p starts)) (suc (e .number)) i (length (entriesOf p starts))
+    repeated-is r by-marks by-numbers = go over refl
+      where
+        es : List Entry
+        es = entriesOf p starts
+
+        go : (b : Bool) → over ≡ b → r ≡ repeats (elementKey p es) (suc (e .number)) i (length es)
+        go true f = by-marks f ∙ marked f .repeating i l own ∙ ap (λ (x : ℕ). repeats (elementKey p es) x i (length es)) number-is
+        go false f =
+            by-numbers f
+            ∙ noted-repeats 4096 (elementKey p es) i numbers (w .noted (plain f .0)) (e .number) number-is (number-low f) (length es) (omega (arith, entries-long p starts))
+            ∙ ap (λ (x : ℕ). repeats (elementKey p es) x i (length es)) number-is
+
   -- a device element, its parent and that one's kind; and what has been found out of all records
   module _ (i : ℕ) (l : suc i < length starts) (own : kindAt (entriesOf p starts) i ≡ 2) (e : DeviceElement) (is : e ≡ elementOf p (startAt (entriesOf p starts) i))
       (parent kind : ℕ) (parent-is : parent ≡ named (entriesOf p starts) (e .parent)) (kind-is : kind ≡ kindOf (entriesOf p starts) parent)
@@ -65,9 +90,6 @@ module _ (p starts : List ℕ) where
       (marked : full ≡ true → Marked p starts again′ endless′) (plain : full ≡ false → (before ≡ false) × (unusual ≡ false) × Blank again′ × Blank endless′) where
     usual : full ≡ false → (ltb 4095 (e .number) ≡ false) × (eqb kind 2 && ltb i parent ≡ false)
     usual f = clear-both (ltb 4095 (e .number)) (eqb kind 2 && ltb i parent) (sym unusual-is ∙ plain f .1)
-
-    pub number-low : full ≡ false → e .number < 4096
-    number-low f = omega (arith, ltb-false 4095 (e .number) (usual f .0))
 
     falls : full ≡ false → Falling p (entriesOf p starts) (suc i + 1)
     falls f = go (ℕ-discrete kind 2)
@@ -86,21 +108,6 @@ module _ (p starts : List ℕ) where
 
     key-is : elementKey p (entriesOf p starts) i ≡ suc (e .number)
     key-is = element-key p (entriesOf p starts) i own ∙ ap (λ (x : DeviceElement). suc (x .number)) (sym is)
-
-    -- rule 8
-    pub repeated-is : (r : Bool) → (full ≡ true → r ≡ bitAt again′ i) → (full ≡ false → r ≡ bitAt numbers (e .number))
-        → r ≡ repeats (elementKey p (entriesOf p starts)) (suc (e .number)) i (length (entriesOf p starts))
-    repeated-is r by-marks by-numbers = go full refl
-      where
-        es : List Entry
-        es = entriesOf p starts
-
-        go : (b : Bool) → full ≡ b → r ≡ repeats (elementKey p es) (suc (e .number)) i (length es)
-        go true f = by-marks f ∙ marked f .repeating i l own ∙ ap (λ (x : ℕ). repeats (elementKey p es) x i (length es)) key-is
-        go false f =
-            by-numbers f
-            ∙ noted-repeats 4096 (elementKey p es) i numbers (w .noted (plain f .0)) (e .number) key-is (number-low f) (length es) (omega (arith, entries-long p starts))
-            ∙ ap (λ (x : ℕ). repeats (elementKey p es) x i (length es)) key-is
 
     -- rule 9
     pub circling-is : (r : Bool) → (full ≡ true → r ≡ bitAt endless′ i) → (full ≡ false → r ≡ false)

@@ -112,8 +112,18 @@ fn pass_element(
     let parent = naming::named_at(p, starts, heads, next, e.parent);
     let kind = naming::kind_at(p, starts, parent);
     let unusual = is_unusual(e.number, parent, kind, i);
-    let full = settle(p, starts, heads, next, passed.full, unusual, again, endless);
-    let repeated = is_again(numbers, again, i, e.number, full);
+    let over = settle(
+        p,
+        starts,
+        heads,
+        next,
+        passed.full,
+        4095 < e.number,
+        again,
+        endless,
+    );
+    let repeated = is_again(numbers, again, i, e.number, over);
+    let full = settle(p, starts, heads, next, over, unusual, again, endless);
     let circling = is_endless(endless, i, full);
     let n = breaches::put_element(
         p,

@@ -2,7 +2,8 @@
 use mathlib.Core.Path.{_≡_, refl, sym, ap, subst, _∙_}
 use mathlib.Core.Bool.{Bool, true, false, _&&_}
 use mathlib.Core.List.{List, [], _∷_}
-use Prim.Native.Nat.{ℕ, _+_, _≤_, _<_}
+use mathlib.Core.Logic.{_⊎_, inl, inr, ⊎-elim}
+use Prim.Native.Nat.{ℕ, _+_, _-_, _/_, _≤_, _<_}
 use native.Mathlib.Decide.{ℕ-discrete, decLt}
 use native.Mathlib.Omega.{arith}
 use borrow.Author.Tests.{ne-eqb}
@@ -85,15 +86,18 @@ module _ (a b c : ℕ) (h : Marked a b c) where
   first : a ≡ 68
   first = first-letter a b c h
 
-  pub kind-data : b ≡ 80 → c ≡ 68 → 3 ≡ markNumber (markOf (a ∷ b ∷ c ∷ []))
-  unfolding markOf mark
-  kind-data p d = rw (first, p, d)
+  -- process data has a D behind the P, a property a T
+  module _ (p : b ≡ 80) where
+    third : Dec (c ≡ 68) → (c ≡ 68) ⊎ (c ≡ 84)
+    third (yes e) = inl e
+    third (no d) = inr (data-third c (subst (λ (x : ℕ). Marked 68 x c) p (subst (λ (x : ℕ). Marked x b c) first h)) d)
 
-  pub kind-property : b ≡ 80 → (c ≡ 68 → ⊥) → 4 ≡ markNumber (markOf (a ∷ b ∷ c ∷ []))
-  unfolding markOf mark
-  kind-property p d =
-      let t : c ≡ 84 = data-third c (subst (λ (x : ℕ). Marked 68 x c) p (subst (λ (x : ℕ). Marked x b c) first h)) d in
-      rw (first, p, t)
+    pub data-letter : 68 ≤ c
+    data-letter = ⊎-elim (λ (e : c ≡ 68). omega arith) (λ (e : c ≡ 84). omega arith) (third (ℕ-discrete c 68))
+
+    pub kind-data : 3 + (c - 68) / 16 ≡ markNumber (markOf (a ∷ b ∷ c ∷ []))
+    unfolding markOf mark
+    kind-data = ⊎-elim (λ (e : c ≡ 68). rw (first, p, e)) (λ (e : c ≡ 84). rw (first, p, e)) (third (ℕ-discrete c 68))
 
   pub kind-element : b ≡ 69 → 2 ≡ markNumber (markOf (a ∷ b ∷ c ∷ []))
   unfolding markOf mark

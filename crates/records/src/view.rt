@@ -27,7 +27,8 @@ pub fn kind(p: &[u8], at: u16) -> u16
     super::mark_number(super::mark_of(p[start], p[start + 1], p[start + 2]))
 }
 
-// The same where a mark stands: two of its letters tell it from the others.
+// The same where a mark stands: two of its letters tell it from the others. Process data and properties, of which a pool has most and
+// in any order, are told apart without a branch: their third letters are 68 and 84.
 pub fn marked_kind(p: &[u8], at: u16) -> u16
     requires { ⌜ (markNumber (markOf (three (now p) at)) ≡ 0 → ⊥) ⌝ }
     ensures { λ r. ⌜ r ≡ markNumber (markOf (three (now (p .entry)) at)) ⌝ }
@@ -36,10 +37,7 @@ pub fn marked_kind(p: &[u8], at: u16) -> u16
     let second = p[start + 1];
     let third = p[start + 2];
     if second == b'P' {
-        if third == b'D' {
-            return 3;
-        }
-        return 4;
+        return 3 + (third as u16 - 68) / 16;
     }
     if second == b'E' {
         return 2;
