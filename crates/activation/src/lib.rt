@@ -56,9 +56,9 @@ fn unread(verdict: Verdict) -> Answer
 }
 
 // What activating answers, and how many entries of the table are then filled.
-struct Activated {
-    step: Step,
-    records: usize,
+pub struct Activated {
+    pub step: Step,
+    pub records: usize,
 }
 
 fn filling(step: Step, records: usize) -> Activated
@@ -67,13 +67,13 @@ fn filling(step: Step, records: usize) -> Activated
     Activated { step, records }
 }
 
-fn activated_records(activated: Activated) -> usize
+pub fn activated_records(activated: Activated) -> usize
     ensures { λ r. ⌜ r ≡ activated .records ⌝ }
 {
     activated.records
 }
 
-fn activated_step(activated: Activated) -> Step
+pub fn activated_step(activated: Activated) -> Step
     ensures { λ r. ⌜ r ≡ activated .step ⌝ }
 {
     activated.step
@@ -121,7 +121,7 @@ fn settle(s: Session, p: &[u8], kept: &mut [u8], room: usize, starts: &mut [u16]
 
 // Activates the pool that is offered, or else the one that is kept, for a table of so many entries. The list then begins with the
 // starts of the records of the pool that is checked, where it is read; where none is checked, no entry is filled.
-fn activate_in(
+pub fn activate_in(
     s: Session,
     staging: &[u8],
     kept: &mut [u8],

@@ -1,10 +1,12 @@
 // What the C functions over the table are made of. A pool is looked at once, with a list of its records' starts; the answer goes out as
 // numbers, and the table is filled by that list. There is a list for a pool of at most 12,288 bytes, and one for every pool: a record has
 // at least 12 bytes, and the end of the last stands behind the starts.
+use client::ClientSession;
+use client::ClientStep;
 use working_table::Record;
 ghost use mathlib.Core.Path.{_≡_};
 ghost use Prim.Native.Nat.{_≤_};
-ghost use lib.ListN.{length};
+ghost use lib.ListN.{length, take};
 ghost use Rattle.pool.specs.Reading.{readOf};
 ghost use Rattle.pool.specs.Walk.{Reaches, Listed};
 ghost use Rattle.working_table.specs.Table.{recordsAfter};
@@ -12,6 +14,9 @@ ghost use Rattle.checker.specs.Checking.{checkOf, countOf, faultsAfter};
 ghost use Rattle.judging.specs.Judging.{judgeNumber, judgeError};
 ghost use Rattle.judging.specs.Parts.{judgedCount};
 ghost use Rattle.commands.specs.Tables.{judgedRecords};
+ghost use Rattle.activation.specs.Activating.{activateOf, keptAfter};
+ghost use Rattle.activation.specs.Rows.{recordsFor, ListsFor};
+ghost use Rattle.client.specs.Sessions.{valueOf, outcome, left, sessionIn};
 ghost use Rattle.answers.specs.Numbers.{Says};
 ghost use Rattle.terminal.specs.Texts.{Gives};
 
@@ -97,6 +102,43 @@ pub fn judge_told(
     Told {
         records: judged.records,
         number: answers::give_judgement(judgement, error),
+    }
+}
+
+// What activating answers, beside how many entries of the table are then filled.
+pub struct Stepped {
+    pub records: usize,
+    pub step: ClientStep,
+}
+
+pub fn stepped_records(stepped: Stepped) -> usize
+    ensures { λ r. ⌜ r ≡ stepped .records ⌝ }
+{
+    stepped.records
+}
+
+pub fn stepped_step(stepped: Stepped) -> ClientStep
+    ensures { λ r. ⌜ r ≡ stepped .step ⌝ }
+{
+    stepped.step
+}
+
+pub fn activate_told(
+    v: ClientSession,
+    staging: &[u8],
+    kept: &mut [u8],
+    room: usize,
+    starts: &mut [u16],
+) -> Stepped
+    requires { ⌜ Reaches (now starts) (take (sessionIn v .announced) (now staging)) ⌝ }
+    ensures { λ r. ⌜ (r .step ≡ outcome v (activateOf (valueOf v) (now (staging .entry)) (length (now (kept .entry))) room)) × (now (kept .exit) ≡ left v (keptAfter (valueOf v) (now (staging .entry)) (now (kept .entry)) room) (now (kept .entry))) × (r .records ≡ recordsFor (sessionIn v) (now (staging .entry)) (length (now (kept .entry))) room) × ListsFor (sessionIn v) (now (staging .entry)) (length (now (kept .entry))) room (now (starts .exit)) ⌝ }
+{
+    let s = client::session_of(v);
+    let activated = activation::activate_in(s, staging, kept, room, starts);
+    let step = activation::activated_step(activated);
+    Stepped {
+        records: activation::activated_records(activated),
+        step: client::give_client(v, step),
     }
 }
 

@@ -58,9 +58,15 @@ pub extern "C" fn lachsbrille_session_activate(
 ) -> ClientStep
     ensures { λ r. ⌜ (r ≡ outcome v (activateOf (valueOf v) (now (staging .entry)) (length (now (kept .entry))) (length (now (table .entry))))) × (now (kept .exit) ≡ left v (keptAfter (valueOf v) (now (staging .entry)) (now (kept .entry)) (length (now (table .entry)))) (now (kept .entry))) × (now (table .exit) ≡ leftRecords v (activatedRecords (valueOf v) (now (staging .entry)) (length (now (kept .entry))) (now (table .entry))) (now (table .entry))) ⌝ }
 {
-    let s = client::session_of(v);
-    let step = activation::activate(s, staging, kept, table);
-    client::give_client(v, step)
+    let mut starts = [0u16; 5462];
+    let stepped = super::pools::activate_told(v, staging, kept, table.len(), &mut starts);
+    working_table::gather(
+        staging,
+        &starts,
+        super::pools::stepped_records(stepped),
+        table,
+    );
+    super::pools::stepped_step(stepped)
 }
 
 #[no_mangle]
