@@ -262,7 +262,7 @@ fn count_short(p: &[u8], starts: &[u16], faults: &mut [u16]) -> usize
     requires { ⌜ Divided (now p) (now starts) × (length (now starts) ≤ 1025) ⌝ }
     ensures { λ r. ⌜ Emits (now (faults .entry)) 0 (breachesIn (now (p .entry)) (entriesOf (now (p .entry)) (now (starts .entry)))) (now (faults .exit)) r ⌝ }
 {
-    let mut heads = [0u16; 521];
+    let mut heads = [0u16; 512];
     let mut next = [0u16; 1025];
     naming::name_ids(p, starts, &mut heads, &mut next);
     let mut again = [0u8; 129];
@@ -275,7 +275,7 @@ fn count_long(p: &[u8], starts: &[u16], faults: &mut [u16]) -> usize
     requires { ⌜ Divided (now p) (now starts) ⌝ }
     ensures { λ r. ⌜ Emits (now (faults .entry)) 0 (breachesIn (now (p .entry)) (entriesOf (now (p .entry)) (now (starts .entry)))) (now (faults .exit)) r ⌝ }
 {
-    let mut heads = [0u16; 4079];
+    let mut heads = [0u16; 4096];
     let mut next = [0u16; 5462];
     naming::name_ids(p, starts, &mut heads, &mut next);
     let mut again = [0u8; 684];

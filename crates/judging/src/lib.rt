@@ -213,7 +213,7 @@ fn judge_short(
     requires { ⌜ Divided (now p) (now starts) × (length (now starts) ≤ 1025) ⌝ }
     ensures { λ r. ⌜ JudgedAmong (now (p .entry)) (entriesOf (now (p .entry)) (now (starts .entry))) command element ddi value r ⌝ }
 {
-    let mut heads = [0u16; 521];
+    let mut heads = [0u16; 512];
     let mut next = [0u16; 1025];
     naming::name_ids(p, starts, &mut heads, &mut next);
     let mut again = [0u8; 129];
@@ -243,7 +243,7 @@ fn judge_long(
     requires { ⌜ Divided (now p) (now starts) ⌝ }
     ensures { λ r. ⌜ JudgedAmong (now (p .entry)) (entriesOf (now (p .entry)) (now (starts .entry))) command element ddi value r ⌝ }
 {
-    let mut heads = [0u16; 4079];
+    let mut heads = [0u16; 4096];
     let mut next = [0u16; 5462];
     naming::name_ids(p, starts, &mut heads, &mut next);
     let mut again = [0u8; 684];

@@ -2,8 +2,8 @@
 use mathlib.Core.Path.{_≡_, refl, sym, ap, _∙_}
 use mathlib.Core.Bool.{Bool, true, false, true≢false, cond, not, _&&_}
 use mathlib.Core.List.{List}
-use Prim.Native.Nat.{ℕ, zero, suc, _+_, _≤_, _<_, _%_}
-use native.Mathlib.Nat.{not-suc-le-zero, mod-lt}
+use Prim.Native.Nat.{ℕ, zero, suc, _+_, _*_, _/_, _%_, _≤_, _<_}
+use native.Mathlib.Nat.{not-suc-le-zero, mod-lt, div-lt-iff-lt-mul, mul-lt-mul-of-pos-right}
 use native.Mathlib.Numerals.{add-one}
 use native.Mathlib.Decide.{ℕ-discrete, decLt}
 use native.Mathlib.Omega.{arith}
@@ -13,7 +13,17 @@ use lib.ListN.{length, getD, set, length-set}
 use lib.Seq.{getD-set-same, getD-set-other}
 use Rattle.naming.specs.Naming.{firstOf}
 use Rattle.naming.proofs.First.{Without, first-none, first-some, first-le, to-first, to-none}
-use Rattle.naming.specs.Chained.{opens, lastOf, linkOf, Chained}
+use Rattle.naming.specs.Chained.{slot, opens, lastOf, linkOf, Chained}
+
+-- every key has a slot
+pub slot-product : (m x : ℕ) → 0 < m → x * 40503 % 65536 * m < 65536 * m
+slot-product m x some = mul-lt-mul-of-pos-right (mod-lt (x * 40503) (omega arith)) some
+
+pub slot-lt : (m x : ℕ) → 0 < m → slot m x < m
+unfolding slot
+slot-lt m x some =
+    let below = slot-product m x some in
+    div-lt-iff-lt-mul {k = 65536} {x = x * 40503 % 65536 * m} {y = m} (omega arith) .1 (omega (arith, below))
 
 -- a record opens its key if no earlier one has it
 module _ (key : ℕ → ℕ) (i : ℕ) where
@@ -41,31 +51,31 @@ module _ (key : ℕ → ℕ) (i : ℕ) where
 
 module _ (key : ℕ → ℕ) (m b : ℕ) where
   -- one record more: it is the last, or it is passed over
-  pub last-here : (n : ℕ) → opens key n ≡ true → key n % m ≡ b → lastOf key m b (suc n) ≡ suc n
+  pub last-here : (n : ℕ) → opens key n ≡ true → slot m (key n) ≡ b → lastOf key m b (suc n) ≡ suc n
   unfolding lastOf
-  last-here n o e = rw (o, eq-eqb (key n % m) b e)
+  last-here n o e = rw (o, eq-eqb (slot m (key n)) b e)
 
   pub last-shut : (n : ℕ) → opens key n ≡ false → lastOf key m b (suc n) ≡ lastOf key m b n
   unfolding lastOf
   last-shut n o = rw o
 
-  pub last-other : (n : ℕ) → (key n % m ≡ b → ⊥) → lastOf key m b (suc n) ≡ lastOf key m b n
+  pub last-other : (n : ℕ) → (slot m (key n) ≡ b → ⊥) → lastOf key m b (suc n) ≡ lastOf key m b n
   unfolding lastOf
-  last-other n h = rw (ne-eqb (key n % m) b h) (go (opens key n))
+  last-other n h = rw (ne-eqb (slot m (key n)) b h) (go (opens key n))
     where
       go : (o : Bool) → cond (o && false) (suc n) (lastOf key m b n) ≡ lastOf key m b n
       go true = refl
       go false = refl
 
-  pub last-some : (n i : ℕ) → lastOf key m b n ≡ suc i → (i < n) × (opens key i ≡ true) × (key i % m ≡ b)
+  pub last-some : (n i : ℕ) → lastOf key m b n ≡ suc i → (i < n) × (opens key i ≡ true) × (slot m (key i) ≡ b)
   unfolding lastOf
   last-some zero i e = absurd (omega arith)
-  last-some (suc n) i e = go (opens key n) refl (ℕ-discrete (key n % m) b) (last-some n i)
+  last-some (suc n) i e = go (opens key n) refl (ℕ-discrete (slot m (key n)) b) (last-some n i)
     where
-      late : (lastOf key m b n ≡ suc i → (i < n) × (opens key i ≡ true) × (key i % m ≡ b)) → lastOf key m b n ≡ suc i → (i < suc n) × (opens key i ≡ true) × (key i % m ≡ b)
+      late : (lastOf key m b n ≡ suc i → (i < n) × (opens key i ≡ true) × (slot m (key i) ≡ b)) → lastOf key m b n ≡ suc i → (i < suc n) × (opens key i ≡ true) × (slot m (key i) ≡ b)
       late before q = let s = before q in (omega (arith, s .0), s .1, s .2)
 
-      go : (o : Bool) → opens key n ≡ o → Dec (key n % m ≡ b) → (lastOf key m b n ≡ suc i → (i < n) × (opens key i ≡ true) × (key i % m ≡ b)) → (i < suc n) × (opens key i ≡ true) × (key i % m ≡ b)
+      go : (o : Bool) → opens key n ≡ o → Dec (slot m (key n) ≡ b) → (lastOf key m b n ≡ suc i → (i < n) × (opens key i ≡ true) × (slot m (key i) ≡ b)) → (i < suc n) × (opens key i ≡ true) × (slot m (key i) ≡ b)
       go true o (yes k) before =
           let q : suc n ≡ suc i = sym (last-here n o k) ∙ e in
           let same : i ≡ n = omega arith in
@@ -80,44 +90,44 @@ module _ (key : ℕ → ℕ) (m b : ℕ) where
       go zero e = omega arith
       go (suc i) e = omega (arith, last-some n i e .0)
 
-  -- no record of the remainder that opens a key stands behind the last
-  pub last-top : (n k : ℕ) → k < n → opens key k ≡ true → key k % m ≡ b → suc k ≤ lastOf key m b n
+  -- no record of the slot that opens a key stands behind the last
+  pub last-top : (n k : ℕ) → k < n → opens key k ≡ true → slot m (key k) ≡ b → suc k ≤ lastOf key m b n
   last-top zero k l o e = absurd (not-suc-le-zero l)
-  last-top (suc n) k l o e = go (opens key n) refl (ℕ-discrete (key n % m) b) (decLt k n) (last-top n k)
+  last-top (suc n) k l o e = go (opens key n) refl (ℕ-discrete (slot m (key n)) b) (decLt k n) (last-top n k)
     where
-      go : (w : Bool) → opens key n ≡ w → Dec (key n % m ≡ b) → Dec (k < n) → (k < n → opens key k ≡ true → key k % m ≡ b → suc k ≤ lastOf key m b n) → suc k ≤ lastOf key m b (suc n)
+      go : (w : Bool) → opens key n ≡ w → Dec (slot m (key n) ≡ b) → Dec (k < n) → (k < n → opens key k ≡ true → slot m (key k) ≡ b → suc k ≤ lastOf key m b n) → suc k ≤ lastOf key m b (suc n)
       go true w (yes q) d before = rw (last-here n w q) (omega arith)
       go true w (no q) (yes d) before = rw (last-other n q) (before d o e)
-      go true w (no q) (no d) before = let same : k ≡ n = omega arith in absurd (q (ap (λ (j : ℕ). key j % m) (sym same) ∙ e))
+      go true w (no q) (no d) before = let same : k ≡ n = omega arith in absurd (q (ap (λ (j : ℕ). slot m (key j)) (sym same) ∙ e))
       go false w q (yes d) before = rw (last-shut n w) (before d o e)
       go false w q (no d) before = let same : k ≡ n = omega arith in absurd (true≢false (sym o ∙ ap (opens key) same ∙ w))
 
--- a walk for a key among n records stands at a number: 0, or a record of the key's remainder that opens its own. The first
+-- a walk for a key among n records stands at a number: 0, or a record of the key's slot that opens its own. The first
 -- record with the key does not stand behind it
 pub record Walks (key : ℕ → ℕ) (n m x r : ℕ) : Type 0 where
   pub inside : r ≤ n
   pub ahead : firstOf key x n ≤ r
-  pub on : (i : ℕ) → r ≡ suc i → (opens key i ≡ true) × (key i % m ≡ x % m)
+  pub on : (i : ℕ) → r ≡ suc i → (opens key i ≡ true) × (slot m (key i) ≡ slot m x)
 
--- from the last of the first j records with the remainder, where the key's first is among those
+-- from the last of the first j records with the slot, where the key's first is among those
 module _ (key : ℕ → ℕ) (n m x : ℕ) where
-  walks-from : (j : ℕ) → j ≤ n → firstOf key x n ≤ j → Walks key n m x (lastOf key m (x % m) j)
+  walks-from : (j : ℕ) → j ≤ n → firstOf key x n ≤ j → Walks key n m x (lastOf key m (slot m x) j)
   walks-from j l h =
       record {
-        inside = omega (arith, last-le key m (x % m) j);
+        inside = omega (arith, last-le key m (slot m x) j);
         ahead = go (firstOf key x n) refl;
-        on = λ i e. let s = last-some key m (x % m) j i e in (s .1, s .2);
+        on = λ i e. let s = last-some key m (slot m x) j i e in (s .1, s .2);
       }
     where
-      go : (f : ℕ) → firstOf key x n ≡ f → firstOf key x n ≤ lastOf key m (x % m) j
+      go : (f : ℕ) → firstOf key x n ≡ f → firstOf key x n ≤ lastOf key m (slot m x) j
       go zero e = omega arith
       go (suc k) e =
           let s = first-some key x n k e in
-          let top = last-top key m (x % m) j k (omega arith) (first-opens key k x n e) (ap (λ (y : ℕ). y % m) (s .1)) in
+          let top = last-top key m (slot m x) j k (omega arith) (first-opens key k x n e) (ap (λ (y : ℕ). slot m y) (s .1)) in
           omega arith
 
   -- past a record with another key
-  walks-past : (i : ℕ) → Walks key n m x (suc i) → (key i ≡ x → ⊥) → Walks key n m x (lastOf key m (x % m) i)
+  walks-past : (i : ℕ) → Walks key n m x (suc i) → (key i ≡ x → ⊥) → Walks key n m x (lastOf key m (slot m x) i)
   walks-past i w h = walks-from i (omega (arith, w .inside)) (go (firstOf key x n) refl)
     where
       go : (f : ℕ) → firstOf key x n ≡ f → firstOf key x n ≤ i
@@ -135,11 +145,11 @@ module _ (key : ℕ → ℕ) (n m x : ℕ) where
 
 -- by the lists
 module _ (key : ℕ → ℕ) (n : ℕ) (heads next : List ℕ) (c : Chained key n heads next) (x : ℕ) where
-  pub walk-begins : Walks key n (length heads) x (getD heads (x % length heads) 0)
-  walk-begins = rw (c .top (x % length heads) (mod-lt x (c .some))) (walks-from key n (length heads) x n (omega arith) (first-le key x n))
+  pub walk-begins : Walks key n (length heads) x (getD heads (slot (length heads) x) 0)
+  walk-begins = rw (c .top (slot (length heads) x) (slot-lt (length heads) x (c .some))) (walks-from key n (length heads) x n (omega arith) (first-le key x n))
 
   module _ (r i : ℕ) (here : r ≡ suc i) (w : Walks key n (length heads) x r) where
-    link-is : getD next r 0 ≡ lastOf key (length heads) (x % length heads) i
+    link-is : getD next r 0 ≡ lastOf key (length heads) (slot (length heads) x) i
     unfolding linkOf
     link-is =
         let o = w .on i here in
@@ -151,7 +161,7 @@ module _ (key : ℕ → ℕ) (n : ℕ) (heads next : List ℕ) (c : Chained key 
     walk-goes h = rw link-is (walks-past key n (length heads) x i (rw here at w) h)
 
     pub walk-falls : getD next r 0 < r
-    walk-falls = omega (arith, link-is, last-le key (length heads) (x % length heads) i)
+    walk-falls = omega (arith, link-is, last-le key (length heads) (slot (length heads) x) i)
 
 -- one record more
 module _ (key : ℕ → ℕ) (n : ℕ) (heads next : List ℕ) (c : Chained key n heads next) (room : suc n < length next) where
@@ -174,50 +184,52 @@ module _ (key : ℕ → ℕ) (n : ℕ) (heads next : List ℕ) (c : Chained key 
       let shut : opens key n ≡ false = ne-eqb (firstOf key (key n) n) 0 h in
       record {
         some = c .some;
+        few = c .few;
         top = λ b l. c .top b l ∙ sym (last-shut key (length heads) b n shut);
         below = linked 65535 (rw shut);
       }
 
-  -- else it is linked to the last of its remainder, and is that itself
-  pub chained-open : firstOf key (key n) n ≡ 0 → Chained key (suc n) (set heads (key n % length heads) (suc n)) (set next (suc n) (getD heads (key n % length heads) 0))
+  -- else it is linked to the last of its slot, and is that itself
+  pub chained-open : firstOf key (key n) n ≡ 0 → Chained key (suc n) (set heads (slot (length heads) (key n)) (suc n)) (set next (suc n) (getD heads (slot (length heads) (key n)) 0))
   unfolding opens linkOf
   chained-open z =
       record {
         some = rw long (c .some);
+        few = rw long (c .few);
         top = λ b l. rw long (tops b (rw long at l) (ℕ-discrete b r));
         below = rw long (linked (getD heads r 0) (c .top r small ∙ rw opened));
       }
     where
       r : ℕ
-      r = key n % length heads
+      r = slot (length heads) (key n)
 
-      small : key n % length heads < length heads
-      small = mod-lt (key n) (c .some)
+      small : slot (length heads) (key n) < length heads
+      small = slot-lt (length heads) (key n) (c .some)
 
-      long : length (set heads (key n % length heads) (suc n)) ≡ length heads
-      long = length-set heads (key n % length heads) (suc n)
+      long : length (set heads (slot (length heads) (key n)) (suc n)) ≡ length heads
+      long = length-set heads (slot (length heads) (key n)) (suc n)
 
       opened : opens key n ≡ true
       opened = eq-eqb (firstOf key (key n) n) 0 z
 
-      tops : (b : ℕ) → b < length heads → Dec (b ≡ key n % length heads) → getD (set heads (key n % length heads) (suc n)) b 0 ≡ lastOf key (length heads) b (suc n)
-      tops b l (yes e) = rw e (getD-set-same heads (key n % length heads) (suc n) 0 small ∙ sym (last-here key (length heads) (key n % length heads) n opened refl))
-      tops b l (no e) = getD-set-other heads (key n % length heads) b (suc n) 0 e ∙ c .top b l ∙ sym (last-other key (length heads) b n (λ (q : key n % length heads ≡ b). e (sym q)))
+      tops : (b : ℕ) → b < length heads → Dec (b ≡ slot (length heads) (key n)) → getD (set heads (slot (length heads) (key n)) (suc n)) b 0 ≡ lastOf key (length heads) b (suc n)
+      tops b l (yes e) = rw e (getD-set-same heads (slot (length heads) (key n)) (suc n) 0 small ∙ sym (last-here key (length heads) (slot (length heads) (key n)) n opened refl))
+      tops b l (no e) = getD-set-other heads (slot (length heads) (key n)) b (suc n) 0 e ∙ c .top b l ∙ sym (last-other key (length heads) b n (λ (q : slot (length heads) (key n) ≡ b). e (sym q)))
 
 -- no record yet
-pub chained-none : (key : ℕ → ℕ) (heads next : List ℕ) → 0 < length heads → ((x : ℕ) → getD heads x 0 ≡ 0) → Chained key 0 heads next
+pub chained-none : (key : ℕ → ℕ) (heads next : List ℕ) → 0 < length heads → length heads ≤ 65536 → ((x : ℕ) → getD heads x 0 ≡ 0) → Chained key 0 heads next
 unfolding lastOf
-chained-none key heads next s blank = record { some = s; top = λ b l. blank b; below = λ i l. absurd (not-suc-le-zero l) }
+chained-none key heads next s few blank = record { some = s; few = few; top = λ b l. blank b; below = λ i l. absurd (not-suc-le-zero l) }
 
 -- the mark stands exactly where a record does not open its key
 pub unmarked : (key : ℕ → ℕ) (n : ℕ) (heads next : List ℕ) → Chained key n heads next → n < 65535 → (i : ℕ) → i < n → eqb (getD next (suc i) 0) 65535 ≡ not (opens key i)
 unfolding linkOf
 unmarked key n heads next c few i l = rw (c .below i l) (go (opens key i))
   where
-    go : (o : Bool) → eqb (cond o (lastOf key (length heads) (key i % length heads) i) 65535) 65535 ≡ not o
+    go : (o : Bool) → eqb (cond o (lastOf key (length heads) (slot (length heads) (key i)) i) 65535) 65535 ≡ not o
     go true =
-        ne-eqb (lastOf key (length heads) (key i % length heads) i) 65535
-        (λ (e : lastOf key (length heads) (key i % length heads) i ≡ 65535). omega (arith, last-le key (length heads) (key i % length heads) i))
+        ne-eqb (lastOf key (length heads) (slot (length heads) (key i)) i) 65535
+        (λ (e : lastOf key (length heads) (slot (length heads) (key i)) i ≡ 65535). omega (arith, last-le key (length heads) (slot (length heads) (key i)) i))
     go false = eq-eqb 65535 65535 refl
 
 -- the same by the ID that was read and the number that was found
@@ -228,5 +240,5 @@ module _ (key : ℕ → ℕ) (n : ℕ) (heads next : List ℕ) (c : Chained key 
   pub entered-again : (f ≡ 0 → ⊥) → Chained key (n + 1) heads (set next (n + 1) 65535)
   entered-again h = rw (add-one n) (chained-shut key n heads next c (omega arith) (λ (z : firstOf key (key n) n ≡ 0). h (same-first ∙ z)))
 
-  pub entered-first : f ≡ 0 → Chained key (n + 1) (set heads (k % length heads) (n + 1)) (set next (n + 1) (getD heads (k % length heads) 0))
+  pub entered-first : f ≡ 0 → Chained key (n + 1) (set heads (slot (length heads) k) (n + 1)) (set next (n + 1) (getD heads (slot (length heads) k) 0))
   entered-first z = rw (add-one n, is) (chained-open key n heads next c (omega arith) (sym same-first ∙ z))

@@ -1,6 +1,6 @@
--- Records by the remainder of their keys: a head for each remainder, and a link from each record to an earlier one. No contract of
--- a call rests on these. Definitions only.
-use Prim.Native.Nat.{ℕ, zero, suc, _-_, _≤_, _<_, _%_}
+-- Records by slots of their keys: a head for each slot, and a link from each record to an earlier one. No contract of a call rests on
+-- these. Definitions only.
+use Prim.Native.Nat.{ℕ, zero, suc, _-_, _*_, _/_, _%_, _≤_, _<_}
 use mathlib.Core.Path.{_≡_}
 use mathlib.Core.Bool.{Bool, cond, _&&_}
 use mathlib.Core.List.{List}
@@ -10,22 +10,28 @@ use Rattle.pool.specs.Walk.{Divided}
 use Rattle.naming.specs.Naming.{firstOf}
 use Rattle.naming.specs.Lists.{idIn}
 
+-- the slot of a key among m: 16 bits of a multiple, so that neighbours and keys in equal steps lie apart, scaled to m. As many keys of
+-- 16 bits have one slot as have another, but for one
+unfoldable pub slot : ℕ → ℕ → ℕ
+slot m x = x * 40503 % 65536 * m / 65536
+
 -- whether no record before record i has its key
 unfoldable pub opens : (ℕ → ℕ) → ℕ → Bool
 opens key i = eqb (firstOf key (key i) i) 0
 
--- the number, from 1, of the last of n records that is the first with its key and whose key has the remainder b; 0 for none
+-- the number, from 1, of the last of n records that is the first with its key and whose key has the slot b; 0 for none
 unfoldable pub lastOf : (ℕ → ℕ) → ℕ → ℕ → ℕ → ℕ
 lastOf key m b zero = 0
-lastOf key m b (suc n) = cond (opens key n && eqb (key n % m) b) (suc n) (lastOf key m b n)
+lastOf key m b (suc n) = cond (opens key n && eqb (slot m (key n)) b) (suc n) (lastOf key m b n)
 
 -- what stands in the links for record i: the last such record before it, or the mark that an earlier one has its key
 unfoldable pub linkOf : (ℕ → ℕ) → ℕ → ℕ → ℕ
-linkOf key m i = cond (opens key i) (lastOf key m (key i % m) i) 65535
+linkOf key m i = cond (opens key i) (lastOf key m (slot m (key i)) i) 65535
 
 -- the lists of the first n records
 pub record Chained (key : ℕ → ℕ) (n : ℕ) (heads next : List ℕ) : Type 0 where
   pub some : 0 < length heads
+  pub few : length heads ≤ 65536
   pub top : (b : ℕ) → b < length heads → getD heads b 0 ≡ lastOf key (length heads) b n
   pub below : (i : ℕ) → i < n → getD next (suc i) 0 ≡ linkOf key (length heads) i
 

@@ -1,30 +1,23 @@
-// What IDs name, by short lists: heads under the ID's remainder, and from each record a link to an earlier one of the same
-// remainder, so that the links fall and every walk along them ends. The lists are lent: how many heads there are is the caller's
+// What IDs name, by short lists: heads under the ID's slot, and from each record a link to an earlier one of the same
+// slot, so that the links fall and every walk along them ends. The lists are lent: how many heads there are is the caller's
 // choice, and no ID is too large for them.
 ghost use mathlib.Core.Path.{_≡_};
 ghost use mathlib.Core.Bool.{not};
-ghost use Prim.Native.Nat.{suc, _+_, _≤_, _<_, _%_};
+ghost use Prim.Native.Nat.{suc, _+_, _≤_, _<_};
 ghost use lib.Dec.{eqb};
 ghost use lib.ListN.{length};
 ghost use Rattle.pool.specs.Walk.{entriesOf, Divided};
 ghost use Rattle.naming.specs.Records.{idAt, kindAt};
 ghost use Rattle.naming.specs.Naming.{firstOf, named, kindOf, parentOf};
 ghost use Rattle.naming.specs.Lists.{idIn, Blank};
-ghost use Rattle.naming.specs.Chained.{Chained, Names};
+ghost use Rattle.naming.specs.Chained.{slot, Chained, Names};
 
-// The remainder of an ID by a number of heads. The numbers that are in use stand as constants: so none of them is divided by.
-fn remainder(id: u16, heads: usize) -> usize
-    requires { ⌜ 0 < heads ⌝ }
-    ensures { λ r. ⌜ r ≡ id % heads ⌝ }
+// The slot of an ID among so many heads.
+fn slot_of(id: u16, heads: usize) -> usize
+    requires { ⌜ (0 < heads) × (heads ≤ 65536) ⌝ }
+    ensures { λ r. ⌜ r ≡ slot heads id ⌝ }
 {
-    let x = id as usize;
-    if heads == 4079 {
-        return x % 4079;
-    }
-    if heads == 521 {
-        return x % 521;
-    }
-    x % heads
+    id as usize * 40503 % 65536 * heads / 65536
 }
 
 // The ID of record i.
@@ -40,7 +33,7 @@ fn find(p: &[u8], starts: &[u16], count: usize, heads: &[u16], next: &[u16], id:
     requires { ⌜ Divided (now p) (now starts) × (count < length (now starts)) × (count < length (now next)) × Chained (idIn (now p) (now starts)) count (now heads) (now next) ⌝ }
     ensures { λ r. ⌜ r ≡ firstOf (idIn (now (p .entry)) (now (starts .entry))) id count ⌝ }
 {
-    let head = remainder(id, heads.len());
+    let head = slot_of(id, heads.len());
     let mut r = heads[head];
     while r != 0 {
         let at = r as usize;
@@ -52,7 +45,7 @@ fn find(p: &[u8], starts: &[u16], count: usize, heads: &[u16], next: &[u16], id:
     0
 }
 
-// Links record i to the last earlier one of its remainder, or marks it where an earlier one has its ID.
+// Links record i to the last earlier one of its slot, or marks it where an earlier one has its ID.
 fn enter(p: &[u8], starts: &[u16], i: usize, heads: &mut [u16], next: &mut [u16])
     requires { ⌜ Divided (now p) (now starts) × (i + 1 < length (now starts)) × (length (now starts) ≤ length (now next)) × Chained (idIn (now p) (now starts)) i (now heads) (now next) ⌝ }
     ensures { λ _. ⌜ Chained (idIn (now (p .entry)) (now (starts .entry))) (i + 1) (now (heads .exit)) (now (next .exit)) ⌝ }
@@ -64,14 +57,14 @@ fn enter(p: &[u8], starts: &[u16], i: usize, heads: &mut [u16], next: &mut [u16]
         next[at] = 65535;
         return;
     }
-    let head = remainder(id, heads.len());
+    let head = slot_of(id, heads.len());
     next[at] = heads[head];
     heads[head] = at as u16;
 }
 
 // Lists the records by ID.
 pub fn name_ids(p: &[u8], starts: &[u16], heads: &mut [u16], next: &mut [u16])
-    requires { ⌜ Divided (now p) (now starts) × (length (now starts) ≤ length (now next)) × (0 < length (now heads)) × Blank (now heads) ⌝ }
+    requires { ⌜ Divided (now p) (now starts) × (length (now starts) ≤ length (now next)) × (0 < length (now heads)) × (length (now heads) ≤ 65536) × Blank (now heads) ⌝ }
     ensures { λ _. ⌜ Names (now (p .entry)) (now (starts .entry)) (now (heads .exit)) (now (next .exit)) ⌝ }
 {
     let count = starts.len() - 1;

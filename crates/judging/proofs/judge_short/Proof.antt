@@ -2,7 +2,7 @@
 use native.Mathlib.Omega.{arith}
 use mir.Syntax.{w32}
 use mir.ValLaws.{toZ-ofZ}
-use Rattle.naming.proofs.Lists.{blank, long}
+use Rattle.naming.proofs.Lists.{blank, long, brief}
 use borrow.Author.Needs.{needs}
 use Rattle.judging.proofs.judge_short.Statement.{statement}
 use Rattle.judging.proofs.judge_short.Tie as tie
@@ -14,7 +14,7 @@ slice-aggregate-name-ids-2 : tie.Need-slice-aggregate-name-ids-2
 slice-aggregate-name-ids-2 c = search needs
 
 name-ids-requires : tie.Need-name-ids-requires
-name-ids-requires c κs = (c .before .before .before .before .pre .0, long 1025 _ (c .before .before .before .before .pre .1), long 521 1 (omega arith), blank 521)
+name-ids-requires c κs = (c .before .before .before .before .pre .0, long 1025 _ (c .before .before .before .before .pre .1), long 512 1 (omega arith), brief 512 65536 (omega arith), blank 512)
 
 slice-aggregate-judge-named : tie.Need-slice-aggregate-judge-named
 slice-aggregate-judge-named c = search needs

@@ -1,12 +1,11 @@
--- `naming::find` meets its contract: the walk stands at 0 or at a record of the ID's remainder, and the first record with the ID does
+-- `naming::find` meets its contract: the walk stands at 0 or at a record of the ID's slot, and the first record with the ID does
 -- not stand behind it. The number that it stands at falls. Assumes nothing.
 use mathlib.Core.Path.{_≡_, sym, _∙_}
 use Prim.Native.Nat.{suc, _-_, _<_}
-use native.Mathlib.Nat.{mod-lt}
 use native.Mathlib.Omega.{arith}
 use lib.ListN.{length}
 use Rattle.naming.specs.Lists.{idIn}
-use Rattle.naming.proofs.Chained.{Walks, walk-begins, walk-goes, walk-falls, walks-found, walks-out}
+use Rattle.naming.proofs.Chained.{slot-lt, Walks, walk-begins, walk-goes, walk-falls, walks-found, walks-out}
 use Rattle.naming.proofs.find.Statement.{statement}
 use Rattle.naming.proofs.find.Tie as tie
 
@@ -16,18 +15,18 @@ Inv-loop p starts count heads next id head r₀ r = Walks (idIn p starts) count 
 abbrev μ-loop : tie.MeasureT-loop
 μ-loop p starts count heads next id head r₀ r = r
 
-remainder-requires : tie.Need-remainder-requires Inv-loop μ-loop
-remainder-requires c κs = c .before .before .before .before .pre .3 .some
+slot-of-requires : tie.Need-slot-of-requires Inv-loop μ-loop
+slot-of-requires c κs = (c .before .before .before .before .pre .3 .some, c .before .before .before .before .pre .3 .few)
 
 mul-r : tie.Need-mul-r Inv-loop μ-loop
-mul-r c = omega (arith, c .remainder .ensures, mod-lt (c .before .before .before .before .before .args .id) (c .before .before .before .before .before .pre .3 .some), c .before .before .before .before .before .good)
+mul-r c = omega (arith, c .slot-of .ensures, slot-lt (length (c .before .before .before .before .before .args .heads .now)) (c .before .before .before .before .before .args .id) (c .before .before .before .before .before .pre .3 .some), c .before .before .before .before .before .good)
 
 shared-slice-read-r : tie.Need-shared-slice-read-r Inv-loop μ-loop
-shared-slice-read-r c = omega (arith, c .before .remainder .ensures, mod-lt (c .before .before .before .before .before .before .args .id) (c .before .before .before .before .before .before .pre .3 .some))
+shared-slice-read-r c = omega (arith, c .before .slot-of .ensures, slot-lt (length (c .before .before .before .before .before .before .args .heads .now)) (c .before .before .before .before .before .before .args .id) (c .before .before .before .before .before .before .pre .3 .some))
 
 loop-holds : tie.Need-loop-holds Inv-loop μ-loop
 loop-holds c =
-    rw (c .before .remainder .ensures)
+    rw (c .before .slot-of .ensures)
     (walk-begins (idIn (c .before .before .before .before .before .before .args .p .now) (c .before .before .before .before .before .before .args .starts .now)) (c .before .before .before .before .before .before .args .count) (c .before .before .before .before .before .before .args .heads .now) (c .before .before .before .before .before .before .args .next .now) (c .before .before .before .before .before .before .pre .3) (c .before .before .before .before .before .before .args .id))
 
 cast-at : tie.Need-cast-at Inv-loop μ-loop
@@ -74,7 +73,7 @@ find-spec =
     (tie.spec
     Inv-loop
     μ-loop
-    remainder-requires
+    slot-of-requires
     mul-r
     shared-slice-read-r
     loop-holds
