@@ -10,32 +10,33 @@ import sys
 
 DOCS = Path(__file__).resolve().parent
 
-# Centres of the columns and of the rows.
+# Centres of the columns and of the rows. The interface has columns of its own: all of it stands right under `terminal`.
 COLUMN = {"log": 185, "exchange": 325, "beside": 460, "spine": 605, "table": 750, "session": 905, "claim": 1070}
+COLUMN |= {"device": 398, "command": 535, "answer": 675}
 TOP, PITCH = 100, 64
 WIDTH, HEIGHT = 124, 42
-PICTURE = 1155, 977
+PICTURE = 1155, 1041
 
 # Each layer: its name in lines, its first row and its last.
 LAYERS = [
     (["programs,", "C boundary"], 0, 0),
     (["interface"], 1, 1),
     (["accepted pools,", "sessions, logs,", "messages"], 2, 4),
-    (["checking"], 5, 9),
-    (["reading"], 10, 11),
-    (["records, bytes"], 12, 13),
+    (["checking"], 5, 10),
+    (["reading"], 11, 12),
+    (["records, bytes"], 13, 14),
 ]
 
 # Each crate: its column, its row and what it holds, in a few words.
 BOXES = {
     "terminal": ("exchange", 0, "the C boundary, a static library"),
     "lister": ("claim", 0, "the program"),
-    "commands": ("beside", 1, "over the lent table"),
-    "answers": ("spine", 1, "as numbers for C"),
+    "device_pool": ("device", 1, "over the lent table"),
+    "commands": ("command", 1, "over the lent table"),
+    "answers": ("answer", 1, "as numbers for C"),
     "listing": ("claim", 1, "its lines"),
     "log_writing": ("log", 2, "log records written"),
     "presentation": ("exchange", 2, "displayed values"),
-    "device_pool": ("beside", 2, "over the lent table"),
     "judging": ("spine", 2, "commands judged"),
     "cases": ("claim", 2, "worked cases"),
     "log_reading": ("log", 3, "log records, logs"),
@@ -48,22 +49,23 @@ BOXES = {
     "session": ("session", 4, "one client's calls"),
     "checker": ("spine", 5, "checking a pool"),
     "claims": ("claim", 5, "reading, checking"),
-    "counting": ("spine", 6, "faults of a pool"),
-    "leading": ("beside", 7, "sound records"),
+    "counting": ("spine", 6, "one pass"),
     "breaches": ("spine", 7, "faults of a record"),
-    "fields": ("beside", 8, "rules on fields"),
     "elements": ("spine", 8, "rules on elements"),
-    "chains": ("table", 8, "chains of parents"),
-    "rules": ("spine", 9, "the rule table"),
-    "faults": ("session", 9, "the fault buffer"),
-    "naming": ("spine", 10, "what an ID names"),
-    "text": ("beside", 10, "one text examined"),
-    "working_table": ("table", 10, "the lent table"),
-    "views": ("beside", 11, "a record's fields"),
-    "pool": ("spine", 11, "reading a pool"),
-    "records": ("spine", 12, "the five records"),
-    "division": ("claim", 12, "independent account"),
-    "wire": ("spine", 13, "numbers in bytes"),
+    "chains": ("beside", 9, "endless, repeated"),
+    "fields": ("spine", 9, "rules on fields"),
+    "marks": ("beside", 10, "bits under numbers"),
+    "rules": ("spine", 10, "the rule table"),
+    "faults": ("session", 10, "the fault buffer"),
+    "text": ("beside", 11, "one text examined"),
+    "naming": ("spine", 11, "what an ID names"),
+    "working_table": ("table", 11, "the lent table"),
+    "filling": ("session", 11, "one law for the table"),
+    "views": ("beside", 12, "a record's fields"),
+    "pool": ("spine", 12, "reading a pool"),
+    "records": ("spine", 13, "the five records"),
+    "division": ("claim", 13, "independent account"),
+    "wire": ("spine", 14, "numbers in bytes"),
 }
 PROGRAMS = {"terminal", "lister"}
 CLAIMS = {"cases", "book", "claims", "division"}
@@ -71,24 +73,23 @@ CLAIMS = {"cases", "book", "claims", "division"}
 # Arrows that do not go straight: from which side and how far from its middle, the turns in between (x or y in turn), to
 # which side and how far from its middle.
 BENDS = {
-    ("lister", "checker"): ("bottom", -40, [0.5, 832], "right", -15),
-    ("checker", "working_table"): ("right", 16, [826], "right", 0),
-    ("commands", "judging"): ("bottom", 30, [1.5], "top", -30),
+    ("lister", "checker"): ("bottom", -40, [0.5, 819], "right", -15),
+    ("checker", "working_table"): ("right", 16, [], "top", 0),
+    ("commands", "judging"): ("bottom", 35, [], "top", -35),
+    ("answers", "judging"): ("bottom", -35, [], "top", 35),
     ("device_pool", "device"): ("bottom", 30, [2.5], "top", -30),
     ("judging", "messages"): ("left", 9, [532], "right", 0),
-    ("activation", "checker"): ("left", 9, [820], "right", -5),
+    ("activation", "checker"): ("left", 9, [829], "right", -5),
     ("client", "session"): ("bottom", 30, [], "left", 0),
     ("session", "wire"): ("right", 0, [987], "right", 0),
     ("claims", "checker"): ("left", 6, [], "right", 6),
-    ("counting", "leading"): ("left", 0, [], "top", 0),
-    ("counting", "chains"): ("right", 0, [], "top", 0),
-    ("chains", "naming"): ("bottom", 0, [9.5], "top", 30),
-    ("breaches", "fields"): ("bottom", -30, [7.5], "top", 30),
-    ("fields", "rules"): ("bottom", 30, [8.5], "top", -30),
+    ("counting", "chains"): ("left", 0, [], "top", 0),
+    ("chains", "rules"): ("bottom", 30, [9.5], "top", -30),
     ("rules", "faults"): ("right", 0, [], "left", 0),
-    ("rules", "text"): ("bottom", -30, [9.5], "top", 0),
+    ("rules", "text"): ("bottom", -30, [10.5], "top", 0),
+    ("working_table", "filling"): ("right", 0, [], "left", 0),
     ("working_table", "pool"): ("bottom", 0, [], "right", 0),
-    ("naming", "views"): ("bottom", -30, [10.5], "top", 30),
+    ("naming", "views"): ("bottom", -30, [11.5], "top", 30),
     ("views", "records"): ("bottom", 0, [], "left", 0),
     ("messages", "wire"): ("bottom", 0, [], "left", -9),
     ("time_log", "wire"): ("bottom", 0, [], "left", 9),
