@@ -11,16 +11,15 @@
  * State. There is no heap, no global variable and no lock: a call depends on its arguments and on what they lend, so any
  * number of calls may run at once as long as they share no memory that one of them writes.
  *
- * Stack. The most bytes that a call takes whatever it is lent: for a pool of up to 12,288 bytes with no list of more than 64 entries,
- * and for every pool.
+ * Stack. The most bytes that a call takes, whatever pool, table or other memory it is lent:
  *
- *     read                  2,500     11,500
- *     check                13,000     48,000
- *     text                 13,000     48,000
- *     labels               13,000     48,000
- *     judge                13,000     48,000
- *     session_activate     13,000     48,000
- *     the others            1,000      1,000
+ *     read                 11,200
+ *     check                50,100
+ *     text                 50,200
+ *     labels               50,500
+ *     judge                50,400
+ *     session_activate     50,300
+ *     the others              600
  *
  * Refusals. A call gives 0 or a refusal's number; where several apply, the one that stands first in its list below. Unless said
  * otherwise a refusal changes no lent memory, and lent numbers and the fields of a returned struct are 0.

@@ -140,16 +140,15 @@ fn stack_figures_are_the_same() {
     assert_eq!(figures, stack_rows(&read("README.md"), "| "));
 }
 
-/// The rows of a text that end in two numbers: what stands before them, and
-/// the numbers.
-fn stack_rows(text: &str, start: &str) -> Vec<(String, [u32; 2])> {
-    let number = |word: &str| word.replace(',', "").parse().ok();
+/// The rows of a text that end in a number: what stands before it, and the
+/// number.
+fn stack_rows(text: &str, start: &str) -> Vec<(String, u32)> {
     let rows = text.lines().filter_map(|line| line.strip_prefix(start));
     let row = |line: &str| {
         let plain = line.replace(['|', '`'], " ");
         let words: Vec<&str> = plain.split_whitespace().collect();
-        let (name, figures) = words.split_at(words.len().checked_sub(2)?);
-        Some((name.join(" "), [number(figures[0])?, number(figures[1])?]))
+        let (figure, name) = words.split_last()?;
+        Some((name.join(" "), figure.replace(',', "").parse().ok()?))
     };
     rows.filter_map(row).collect()
 }

@@ -1,6 +1,6 @@
 /*
  * Measures the stack of every call, over pools of every length and those that are worst for each list inside, against the figures of
- * the header: an argument for each of its rows, NAME=SHORT,ANY in bytes. Each call runs on a stack of its own that is filled
+ * the header: an argument for each of its rows, NAME=BYTES. Each call runs on a stack of its own that is filled
  * before, and what it has overwritten is counted; then once more on a stack of no more than the bound, beside a page that nobody may
  * touch.
  */
@@ -13,8 +13,8 @@
 #include <stdlib.h>
 #include <sys/mman.h>
 
-/* No call takes more, whatever it is lent. A pool of up to SHORT_POOL bytes without a list of more than SHORT_LIST entries is held to
- * the figures for short pools. */
+/* No call takes more, whatever it is lent. Pools of up to SHORT_POOL bytes and lists of up to SHORT_LIST entries take shorter lists
+ * inside, and what that comes to is printed. */
 enum { BOUND = 64 << 10, SHORT_POOL = 12 << 10, SHORT_LIST = 64 };
 enum { STACK = 4 << 20, PAGE = 1 << 16, UNUSED = 0xA5 };
 enum { DEVICE = 31, ELEMENT = 13, DATA = 12, LIST_COUNT = 11, LIST = 13, ENTRY = 2 };
@@ -100,12 +100,12 @@ static void others(void)
 static struct {
     const char *name;
     void (*run)(void);
-    size_t short_figure, any_figure, short_most, any_most;
+    size_t figure, short_most, most;
 } calls[] = {
-    {"read", read_pool, 0, 0, 0, 0},   {"check", check_pool, 0, 0, 0, 0},
-    {"text", text, 0, 0, 0, 0},        {"labels", labels, 0, 0, 0, 0},
-    {"judge", judge, 0, 0, 0, 0},      {"session_activate", activate, 0, 0, 0, 0},
-    {"the others", others, 0, 0, 0, 0}
+    {"read", read_pool, 0, 0, 0},     {"check", check_pool, 0, 0, 0},
+    {"text", text, 0, 0, 0},          {"labels", labels, 0, 0, 0},
+    {"judge", judge, 0, 0, 0},        {"session_activate", activate, 0, 0, 0},
+    {"the others", others, 0, 0, 0}
 };
 enum { CALLS = sizeof calls / sizeof *calls };
 
@@ -168,24 +168,23 @@ static void measure(void)
 {
     static unsigned char *tight;
     bool is_short = pool_length <= SHORT_POOL && longest_list <= SHORT_LIST;
-    size_t at, bytes, most;
+    size_t at, bytes;
 
     if (tight == NULL) {
         tight = new_stack(BOUND);
     }
     for (at = 0; at < CALLS; at++) {
         bytes = overwritten(calls[at].run) - overwritten(nothing);
-        most = is_short ? calls[at].short_figure : calls[at].any_figure;
-        if (bytes > most) {
+        if (bytes > calls[at].figure) {
             printf("%s, %s of %zu bytes: %zu bytes of stack, and the header says %zu\n", calls[at].name, pool_name, pool_length,
-                   bytes, most);
+                   bytes, calls[at].figure);
             failures++;
         }
         if (is_short && bytes > calls[at].short_most) {
             calls[at].short_most = bytes;
         }
-        if (bytes > calls[at].any_most) {
-            calls[at].any_most = bytes;
+        if (bytes > calls[at].most) {
+            calls[at].most = bytes;
         }
         run_on(tight, BOUND, calls[at].run);
     }
@@ -297,7 +296,7 @@ static void measure_all(void)
     table_length = LACHSBRILLE_RECORDS_MOST;
 
     begin("a pool of devices, with most faults");
-    for (at = 1; pool_length + DEVICE <= LACHSBRILLE_POOL_MOST; at++, pool_length += DEVICE) {
+    for (; pool_length + DEVICE <= LACHSBRILLE_POOL_MOST; pool_length += DEVICE) {
         memcpy(pool + pool_length, q, DEVICE);
         memset(pool + pool_length + 16, 0xFF, 14);
     }
@@ -316,16 +315,14 @@ static void measure_all(void)
 
 /* ---- the header's figures */
 
-static void take_figures(const char *argument)
+static void take_figure(const char *argument)
 {
     const char *sign = strchr(argument, '=');
-    char *rest;
     size_t at;
 
     for (at = 0; sign != NULL && at < CALLS; at++) {
         if (strlen(calls[at].name) == (size_t)(sign - argument) && strncmp(calls[at].name, argument, sign - argument) == 0) {
-            calls[at].short_figure = strtoul(sign + 1, &rest, 10);
-            calls[at].any_figure = *rest == ',' ? strtoul(rest + 1, NULL, 10) : 0;
+            calls[at].figure = strtoul(sign + 1, NULL, 10);
             return;
         }
     }
@@ -338,15 +335,15 @@ int main(int count, char **arguments)
     int at;
 
     for (at = 1; at < count; at++) {
-        take_figures(arguments[at]);
+        take_figure(arguments[at]);
     }
     measure_all();
     for (at = 0; at < CALLS; at++) {
-        if (calls[at].any_figure > BOUND) {
+        if (calls[at].figure > BOUND) {
             printf("%s: the header says more than %d bytes\n", calls[at].name, BOUND);
             failures++;
         }
-        printf("stack of %s: %zu bytes for short pools, %zu for any\n", calls[at].name, calls[at].short_most, calls[at].any_most);
+        printf("stack of %s: %zu bytes for short pools, %zu for any\n", calls[at].name, calls[at].short_most, calls[at].most);
     }
     return failures != 0;
 }
