@@ -23,8 +23,11 @@ fn is_presented(p: &[u8], starts: &[u16], heads: &[u16], next: &[u16], id: u16) 
     requires { ⌜ Names (now p) (now starts) (now heads) (now next) ⌝ }
     ensures { λ r. ⌜ (r ≡ true → AllClear (presentedRows (entriesOf (now (p .entry)) (now (starts .entry))) id)) ⌝ }
 {
+    if id == 65535 {
+        return true;
+    }
     let named = naming::named_at(p, starts, heads, next, id);
-    (naming::kind_at(p, starts, named) == 5) | (id == 65535)
+    naming::kind_at(p, starts, named) == 5
 }
 
 // Where the text of process data stands, or of a property.

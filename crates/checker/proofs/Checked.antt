@@ -1,5 +1,5 @@
 -- What reading a pool says for checking it. Assumes nothing.
-use mathlib.Core.Path.{_≡_, sym, ap, _∙_, subst}
+use mathlib.Core.Path.{_≡_, sym, ap, subst}
 use mathlib.Core.List.{List}
 use Prim.Native.Nat.{ℕ, suc, _+_, _<_, _≤_}
 use native.Mathlib.Omega.{arith}
@@ -8,7 +8,7 @@ use lib.Dec.{eqb}
 use lib.ListN.{length, take}
 use lib.Seq.{length-take-le}
 use Rattle.pool.specs.Answer.{Answer, answer}
-use Rattle.pool.specs.Reading.{Entry, scanOf, entriesIn, readOf}
+use Rattle.pool.specs.Reading.{scanOf, entriesIn, readOf}
 use Rattle.pool.specs.Walk.{entriesOf, Divided, Listed}
 use Rattle.faults.specs.Emission.{Emits}
 use Rattle.faults.proofs.Emission.{emits-written}

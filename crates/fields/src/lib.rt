@@ -10,12 +10,11 @@ use records::ValuePresentation;
 ghost use mathlib.Core.Path.{_≡_};
 ghost use mathlib.Core.Bool.{not, _&&_, _||_};
 ghost use mathlib.Core.List.{[], _∷_};
-ghost use Prim.Native.Nat.{ℕ, _+_, _≤_, _<_, _^_};
+ghost use Prim.Native.Nat.{_+_, _≤_, _<_, _^_};
 ghost use lib.Dec.{eqb, ltb, leb};
-ghost use lib.ListN.{getD};
 ghost use Rattle.faults.specs.Rows.{many};
 ghost use Rattle.faults.specs.Emission.{Puts};
-ghost use Rattle.rules.specs.Table.{unsound, badId, badLabel, badScale, badSource, badOwn, wrongKind, ownRows, deviceRows, fieldRows, presentationRows, dataRows, propertyRows, valueRows};
+ghost use Rattle.rules.specs.Table.{unsound, badLabel, badScale, badSource, badOwn, wrongKind, ownRows, deviceRows, fieldRows, presentationRows, dataRows, propertyRows, valueRows};
 
 fn is_unsound(p: &[u8], s: Span) -> bool
     ensures { λ r. ⌜ r ≡ unsound (now (p .entry)) s ⌝ }

@@ -1,14 +1,10 @@
 -- `breaches::put_other` meets its contract. Assumes nothing.
-use mathlib.Core.Path.{_≡_, refl, sym, ap, _∙_}
-use mathlib.Core.Bool.{Bool, not}
-use Prim.Native.Nat.{suc, _+_, _<_}
+use mathlib.Core.Path.{sym, ap, _∙_}
+use Prim.Native.Nat.{suc, _<_}
 use native.Mathlib.Omega.{arith}
-use lib.Dec.{eqb}
-use lib.ListN.{length, getD}
+use lib.ListN.{length}
 use Rattle.pool.specs.Walk.{entriesOf}
 use Rattle.naming.specs.Lists.{idIn}
-use Rattle.naming.specs.Records.{idAt}
-use Rattle.naming.specs.Naming.{firstOf}
 use Rattle.naming.proofs.Starts.{start-read, id-read}
 use Rattle.faults.proofs.Clearing.{puts-clear}
 use Rattle.rules.specs.Table.{badOwn, repeats}

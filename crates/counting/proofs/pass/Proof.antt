@@ -1,10 +1,8 @@
 -- `counting::pass` meets its contract. Assumes nothing.
-use mathlib.Core.Path.{_≡_, sym, _∙_}
+use mathlib.Core.Path.{sym, _∙_}
 use Prim.Native.Nat.{suc, _<_}
 use native.Mathlib.Omega.{arith}
 use lib.ListN.{length}
-use Rattle.naming.specs.Records.{kindAt}
-use Rattle.pool.specs.Walk.{entriesOf}
 use Rattle.naming.proofs.Names.{names-divided}
 use Rattle.counting.proofs.Sighting.{sighted-other}
 use borrow.Author.Needs.{needs}

@@ -1,10 +1,9 @@
 -- `counting::pass_element` meets its contract. Assumes nothing.
-use mathlib.Core.Path.{_≡_, ap, _∙_}
+use mathlib.Core.Path.{ap, _∙_}
 use Prim.Native.Nat.{suc, _<_}
 use native.Mathlib.Omega.{arith}
 use lib.ListN.{length}
 use Rattle.views.specs.Fields.{elementOf}
-use Rattle.pool.specs.Walk.{entriesOf}
 use Rattle.naming.proofs.Names.{names-divided, named-inside}
 use Rattle.naming.proofs.Starts.{start-read}
 use Rattle.counting.proofs.Sighting.{number-low, repeated-is, circling-is, sighted-element}

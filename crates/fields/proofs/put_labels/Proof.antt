@@ -2,7 +2,7 @@
 use native.Mathlib.Omega.{arith}
 use mathlib.Core.Path.{_≡_, subst}
 use mathlib.Core.List.{[], _∷_}
-use Prim.Native.Nat.{ℕ, _+_, _-_, _≤_}
+use Prim.Native.Nat.{ℕ, _-_, _≤_}
 use Rattle.faults.specs.Rows.{many}
 use Rattle.faults.specs.Emission.{Puts}
 use Rattle.faults.proofs.Emission.{puts-start, puts-turn, puts-few, puts-length}

@@ -1,10 +1,8 @@
 -- `breaches::look::is_clear_data` meets its contract. Assumes nothing.
-use mathlib.Core.Path.{_≡_, sym, ap, _∙_}
+use mathlib.Core.Path.{_≡_, sym, _∙_}
 use mathlib.Core.Logic.{⊎-elim}
-use Prim.Native.Nat.{ℕ}
 use native.Mathlib.Omega.{arith}
 use Rattle.pool.specs.Walk.{entriesOf}
-use Rattle.naming.specs.Records.{startAt}
 use Rattle.rules.proofs.Truth.{both, untrue}
 use Rattle.breaches.proofs.Looking.{data-looked, property-looked}
 use borrow.Author.Needs.{needs}

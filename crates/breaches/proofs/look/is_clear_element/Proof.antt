@@ -1,5 +1,5 @@
 -- `breaches::look::is_clear_element` meets its contract. Assumes nothing.
-use mathlib.Core.Path.{_≡_, sym, _∙_}
+use mathlib.Core.Path.{sym, _∙_}
 use borrow.Author.Tests.{not-false}
 use Rattle.rules.proofs.Truth.{both, untrue}
 use Rattle.fields.proofs.Clearing.{fields-clear}

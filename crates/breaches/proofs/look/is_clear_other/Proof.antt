@@ -1,7 +1,6 @@
 -- `breaches::look::is_clear_other` meets its contract. Assumes nothing.
-use mathlib.Core.Path.{_≡_, refl}
+use mathlib.Core.Path.{refl}
 use mathlib.Core.Logic.{_⊎_, inl, inr, ⊎-elim}
-use Prim.Native.Nat.{ℕ}
 use borrow.Author.Tests.{eqb-true}
 use Rattle.views.specs.Fields.{presentationOf}
 use Rattle.pool.specs.Walk.{entriesOf}

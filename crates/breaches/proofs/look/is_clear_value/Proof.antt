@@ -1,5 +1,5 @@
 -- `breaches::look::is_clear_value` meets its contract. Assumes nothing.
-use mathlib.Core.Path.{_≡_, sym, subst, _∙_}
+use mathlib.Core.Path.{sym, subst, _∙_}
 use Rattle.records.specs.declared.ValuePresentation.{ValuePresentation}
 use Rattle.rules.specs.Table.{valueRows}
 use Rattle.rules.proofs.Truth.{both, untrue}

@@ -1,5 +1,4 @@
 -- `breaches::other::put_presented` meets its contract. Assumes nothing.
-use native.Mathlib.Omega.{arith}
 use Rattle.pool.specs.Walk.{entriesOf}
 use Rattle.naming.proofs.Names.{names-divided, named-inside}
 use Rattle.breaches.proofs.Rows.{presented}

@@ -1,5 +1,5 @@
 -- `fields::whole::is_machine` meets its contract. Assumes nothing.
-use mathlib.Core.Path.{refl, sym, _∙_}
+use mathlib.Core.Path.{sym, _∙_}
 use borrow.Author.Tests.{eq-eqb, ne-eqb}
 use borrow.Author.Needs.{needs}
 use Rattle.fields.proofs.whole.is_machine.Statement.{statement}
