@@ -9,7 +9,8 @@ ghost use Rattle.working_table.specs.Table.{recordsAfter};
 ghost use Rattle.checker.specs.Checking.{verdictOf, recordsIn, checkOf, countOf, faultsAfter};
 ghost use Rattle.checker.specs.Tables.{ChecksInto};
 
-// The verdict as it is: what checking answers, of which the count of records fills the table.
+// The verdict itself. A function over the table ends with a call that takes its answer out of what the core gave, and here that is
+// all of it.
 pub fn same(verdict: Verdict) -> Verdict
     ensures { λ r. ⌜ r ≡ verdict ⌝ }
 {

@@ -38,6 +38,7 @@ pub fn told_number(told: Told) -> u32
     told.number
 }
 
+// Reads a pool: the count of records or the refusal's place goes into the lent number.
 pub fn read_told(p: &[u8], room: usize, starts: &mut [u16], value: &mut usize) -> Told
     requires { ⌜ Reaches (now starts) (now p) ⌝ }
     ensures { λ r. ⌜ Says (readOf (now (p .entry)) room) (r .number) (now (value .exit)) × (r .records ≡ countOf (now (p .entry)) room) × Listed (now (p .entry)) room (now (starts .exit)) ⌝ }
@@ -49,6 +50,7 @@ pub fn read_told(p: &[u8], room: usize, starts: &mut [u16], value: &mut usize) -
     }
 }
 
+// Checks a pool: the full count of faults or the refusal's place goes into the lent number.
 pub fn check_told(
     p: &[u8],
     room: usize,
@@ -66,6 +68,7 @@ pub fn check_told(
     }
 }
 
+// Finds a text: where it stands in the pool goes into the lent places.
 pub fn text_told(
     p: &[u8],
     room: usize,
@@ -84,6 +87,7 @@ pub fn text_told(
     }
 }
 
+// Judges a command: the error byte goes into the lent byte.
 pub fn judge_told(
     p: &[u8],
     room: usize,
@@ -123,6 +127,7 @@ pub fn stepped_step(stepped: Stepped) -> ClientStep
     stepped.step
 }
 
+// Activates for a C caller's value: one with an unknown stage or mark is refused before a pool is looked at.
 pub fn activate_told(
     v: ClientSession,
     staging: &[u8],
@@ -142,6 +147,7 @@ pub fn activate_told(
     }
 }
 
+// Each of them over the table, by a list of either length.
 pub fn read_short(p: &[u8], table: &mut [Record], value: &mut usize) -> u32
     requires { ⌜ length (now p) ≤ 12288 ⌝ }
     ensures { λ r. ⌜ Says (readOf (now (p .entry)) (length (now (table .entry)))) r (now (value .exit)) × (now (table .exit) ≡ recordsAfter (now (p .entry)) (now (table .entry))) ⌝ }

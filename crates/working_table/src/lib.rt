@@ -98,7 +98,8 @@ pub fn gather(p: &[u8], starts: &[u16], count: usize, table: &mut [Record])
     }
 }
 
-// What reading answers, as it is: the answer beside the count of records, which the law for functions over the table asks for.
+// The outcome itself. A function over the table ends with a call that takes its answer out of what the core gave, and here that is
+// all of it.
 fn same(outcome: Outcome) -> Outcome
     ensures { λ r. ⌜ r ≡ outcome ⌝ }
 {
