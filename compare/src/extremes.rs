@@ -10,13 +10,14 @@ const DATA: usize = 12;
 /// Bytes of a list's entry.
 const ENTRY: usize = 2;
 
-/// The library lists IDs and DDIs by their remainders: by so many.
-const ID_HEADS: usize = 2_039;
-const DDI_HEADS: usize = 1_021;
-/// Numbers of 16 bits that have one remainder.
-const fn of_one_remainder(heads: usize) -> usize {
-    0xFFFF / heads
-}
+/// The library lists IDs by slots, which are the upper bits of a multiple of
+/// the ID: so many IDs have one slot. The inverse of the multiple leads back.
+const IDS_OF_A_SLOT: usize = 16;
+const INVERSE: usize = 30_599;
+/// It lists the DDIs of a long list by their remainders by so many.
+const DDI_HEADS: usize = 2_039;
+/// DDIs that have one remainder.
+const DDIS_OF_A_REMAINDER: usize = 0xFFFF / DDI_HEADS;
 
 pub struct Extreme {
     pub name: &'static str,
@@ -48,13 +49,13 @@ pub fn extremes(bytes: usize) -> Vec<Extreme> {
             "all DDIs again",
             walks(bytes, |index, last| index % last + 1),
         ),
-        ("IDs of equal remainders", crowded_ids(records)),
+        ("IDs of equal slots", crowded_ids(records)),
         ("the deepest ID", deepest(bytes, |index| index)),
         (
             "the deepest ID and DDI",
             deepest(bytes, |index| index * DDI_HEADS),
         ),
-        ("equal remainders throughout", crowded_lists(bytes)),
+        ("equal slots and remainders", crowded_lists(bytes)),
         ("texts of 4-byte characters", long_texts(bytes)),
         ("most faults", most_faults(bytes)),
     ];
@@ -139,11 +140,10 @@ fn walks(bytes: usize, again: impl Fn(usize, usize) -> usize) -> Vec<Object> {
 }
 
 /// The ID of the process data with an index: as many of them as there can be
-/// have one remainder, then the next so many. IDs 0 and 1 are the device's and
-/// the element's.
+/// have one slot, then the next so many. The first slots are left out, since
+/// no ID may be 0.
 fn crowded_id(index: usize) -> u16 {
-    let many = of_one_remainder(ID_HEADS);
-    (2 + index / many + ID_HEADS * (index % many)) as u16
+    ((IDS_OF_A_SLOT + index) * INVERSE % 0x1_0000) as u16
 }
 
 /// Process data with such IDs, and without a fault.
@@ -154,12 +154,11 @@ fn crowded_ids(count: usize) -> Vec<Object> {
     objects
 }
 
-/// A list that names process data of different DDIs, each of which is the
-/// first with its remainder that is looked for last, and then the first of
-/// them as often as it fits.
+/// A list that names process data of different DDIs, and then as often as it
+/// fits the first of them: its ID is looked for past all others of its slot.
 fn deepest(bytes: usize, ddi: impl Fn(usize) -> usize) -> Vec<Object> {
     let room = bytes - DEVICE - ELEMENT;
-    let count = of_one_remainder(DDI_HEADS).min(room / (2 * DATA));
+    let count = DDIS_OF_A_REMAINDER.min(room / (2 * DATA));
     let entries = (room - DATA * count) / ENTRY;
     listing(
         count,
@@ -179,7 +178,7 @@ fn deepest(bytes: usize, ddi: impl Fn(usize) -> usize) -> Vec<Object> {
 /// and then all of them again.
 fn crowded_lists(bytes: usize) -> Vec<Object> {
     let (different, entries) = longest_walks(bytes);
-    let many = of_one_remainder(DDI_HEADS);
+    let many = DDIS_OF_A_REMAINDER;
     let ddi = |index: usize| index / many + DDI_HEADS * (index % many);
     listing(different, entries, ddi, |index| index % different)
 }
