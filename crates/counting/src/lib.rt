@@ -91,7 +91,8 @@ fn is_endless(endless: &[u8], i: usize, full: bool) -> bool
     false
 }
 
-// Record i, a device element.
+// Record i, a device element. All records are marked before rule 8 is judged where the number is over 4095, and else before rule 9: two
+// calls, so that what marks them keeps a frame of its own.
 fn pass_element(
     p: &[u8],
     starts: &[u16],
