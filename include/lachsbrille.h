@@ -13,12 +13,12 @@
  *
  * Stack. The most bytes that a call takes, whatever pool, table or other memory it is lent:
  *
- *     read                 11,200
- *     check                50,100
- *     text                 50,200
- *     labels               50,500
- *     judge                50,400
- *     session_activate     50,300
+ *     read                 11,100
+ *     check                48,800
+ *     text                 48,900
+ *     labels               49,152
+ *     judge                49,100
+ *     session_activate     49,000
  *     the others              600
  *
  * Refusals. A call gives 0 or a refusal's number; where several apply, the one that stands first in its list below. Unless said

@@ -12,7 +12,7 @@ const ENTRY: usize = 2;
 
 /// The library lists IDs by slots, which are the upper bits of a multiple of
 /// the ID: so many IDs have one slot. The inverse of the multiple leads back.
-const IDS_OF_A_SLOT: usize = 16;
+const IDS_OF_A_SLOT: usize = 19;
 const INVERSE: usize = 30_599;
 /// It lists the DDIs of a long list by their remainders by so many.
 const DDI_HEADS: usize = 2_039;

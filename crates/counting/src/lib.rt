@@ -276,7 +276,7 @@ fn count_long(p: &[u8], starts: &[u16], faults: &mut [u16]) -> usize
     requires { ⌜ Divided (now p) (now starts) ⌝ }
     ensures { λ r. ⌜ Emits (now (faults .entry)) 0 (breachesIn (now (p .entry)) (entriesOf (now (p .entry)) (now (starts .entry)))) (now (faults .exit)) r ⌝ }
 {
-    let mut heads = [0u16; 4096];
+    let mut heads = [0u16; 3500];
     let mut next = [0u16; 5462];
     naming::name_ids(p, starts, &mut heads, &mut next);
     let mut again = [0u8; 684];

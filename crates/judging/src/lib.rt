@@ -243,7 +243,7 @@ fn judge_long(
     requires { ⌜ Divided (now p) (now starts) ⌝ }
     ensures { λ r. ⌜ JudgedAmong (now (p .entry)) (entriesOf (now (p .entry)) (now (starts .entry))) command element ddi value r ⌝ }
 {
-    let mut heads = [0u16; 4096];
+    let mut heads = [0u16; 3500];
     let mut next = [0u16; 5462];
     naming::name_ids(p, starts, &mut heads, &mut next);
     let mut again = [0u8; 684];

@@ -15,7 +15,7 @@ slice-aggregate-name-ids-2 : tie.Need-slice-aggregate-name-ids-2
 slice-aggregate-name-ids-2 c = search needs
 
 name-ids-requires : tie.Need-name-ids-requires
-name-ids-requires c κs = (c .before .before .before .before .before .pre, long 5462 _ (starts-few _ _ (c .before .before .before .before .before .pre)), long 4096 1 (omega arith), brief 4096 65536 (omega arith), blank 4096)
+name-ids-requires c κs = (c .before .before .before .before .before .pre, long 5462 _ (starts-few _ _ (c .before .before .before .before .before .pre)), long 3500 1 (omega arith), brief 3500 65536 (omega arith), blank 3500)
 
 slice-aggregate-put-all : tie.Need-slice-aggregate-put-all
 slice-aggregate-put-all c = search needs
