@@ -2,8 +2,7 @@
 use mathlib.Core.Path.{_≡_, refl, sym, ap, subst, _∙_}
 use mathlib.Core.Bool.{Bool, true, false, _&&_}
 use mathlib.Core.List.{List, [], _∷_}
-use mathlib.Core.Logic.{_⊎_, inl, inr, ⊎-elim}
-use Prim.Native.Nat.{ℕ, _+_, _-_, _/_, _≤_, _<_}
+use Prim.Native.Nat.{ℕ, _+_, _*_, _/_, _%_, _≤_, _<_}
 use native.Mathlib.Decide.{ℕ-discrete, decLt}
 use native.Mathlib.Omega.{arith}
 use borrow.Author.Tests.{ne-eqb}
@@ -88,16 +87,13 @@ module _ (a b c : ℕ) (h : Marked a b c) where
 
   -- process data has a D behind the P, a property a T
   module _ (p : b ≡ 80) where
-    third : Dec (c ≡ 68) → (c ≡ 68) ⊎ (c ≡ 84)
-    third (yes e) = inl e
-    third (no d) = inr (data-third c (subst (λ (x : ℕ). Marked 68 x c) p (subst (λ (x : ℕ). Marked x b c) first h)) d)
-
-    pub data-letter : 68 ≤ c
-    data-letter = ⊎-elim (λ (e : c ≡ 68). omega arith) (λ (e : c ≡ 84). omega arith) (third (ℕ-discrete c 68))
-
-    pub kind-data : 3 + (c - 68) / 16 ≡ markNumber (markOf (a ∷ b ∷ c ∷ []))
+    pub kind-process-data : c ≡ 68 → 3 ≡ markNumber (markOf (a ∷ b ∷ c ∷ []))
     unfolding markOf mark
-    kind-data = ⊎-elim (λ (e : c ≡ 68). rw (first, p, e)) (λ (e : c ≡ 84). rw (first, p, e)) (third (ℕ-discrete c 68))
+    kind-process-data e = rw (first, p, e)
+
+    pub kind-property : (c ≡ 68 → ⊥) → 4 ≡ markNumber (markOf (a ∷ b ∷ c ∷ []))
+    unfolding markOf mark
+    kind-property d = rw (first, p, data-third c (subst (λ (x : ℕ). Marked 68 x c) p (subst (λ (x : ℕ). Marked x b c) first h)) d)
 
   pub kind-element : b ≡ 69 → 2 ≡ markNumber (markOf (a ∷ b ∷ c ∷ []))
   unfolding markOf mark
@@ -118,3 +114,24 @@ module _ (a b c : ℕ) (h : Marked a b c) where
     kind-device d =
         let t : c ≡ 67 = device-third c (subst (λ (x : ℕ). Marked 68 x c) second (subst (λ (x : ℕ). Marked x b c) first h)) d in
         rw (first, second, t)
+
+  -- the two letters as a number, times 6663, have the kind in bits 15 to 17
+  pub kind-product : (b + 256 * c) * 6663 / 32768 % 8 ≡ markNumber (markOf (a ∷ b ∷ c ∷ []))
+  unfolding markOf mark
+  kind-product = by-second (ℕ-discrete b 80) (ℕ-discrete b 69)
+    where
+      to : (x : ℕ) → b ≡ x → Marked 68 x c
+      to x q = subst (λ (y : ℕ). Marked 68 y c) q (subst (λ (y : ℕ). Marked y b c) first h)
+
+      data-of : b ≡ 80 → Dec (c ≡ 68) → (b + 256 * c) * 6663 / 32768 % 8 ≡ markNumber (markOf (a ∷ b ∷ c ∷ []))
+      data-of p (yes e) = rw (first, p, e)
+      data-of p (no d) = rw (first, p, data-third c (to 80 p) d)
+
+      device-of : b ≡ 86 → Dec (c ≡ 80) → (b + 256 * c) * 6663 / 32768 % 8 ≡ markNumber (markOf (a ∷ b ∷ c ∷ []))
+      device-of p (yes e) = rw (first, p, e)
+      device-of p (no d) = rw (first, p, device-third c (to 86 p) d)
+
+      by-second : Dec (b ≡ 80) → Dec (b ≡ 69) → (b + 256 * c) * 6663 / 32768 % 8 ≡ markNumber (markOf (a ∷ b ∷ c ∷ []))
+      by-second (yes p) e = data-of p (ℕ-discrete c 68)
+      by-second (no n) (yes p) = rw (first, p, element-third c (to 69 p))
+      by-second (no n) (no m) = device-of (second-letter b c (subst (λ (y : ℕ). Marked y b c) first h) n m) (ℕ-discrete c 80)

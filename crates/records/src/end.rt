@@ -40,6 +40,22 @@ fn text_end(p: &[u8], at: usize, limit: u8) -> Extent
     Extent::Ends(at + 1 + n as usize)
 }
 
+// The same so many bytes behind a place in the pool. The test is on what is left of the pool, so that the walk from record to record
+// waits for the length byte alone.
+fn text_behind(p: &[u8], at: usize, n: usize, limit: u8) -> Extent
+    requires { ⌜ at ≤ length (now p) ⌝ }
+    ensures { λ r. ⌜ (r ≡ lateField (text limit) (now (p .entry)) (at + n)) × (placeOf r ≤ length (now (p .entry)) + 256) ⌝ }
+{
+    if p.len() - at <= n {
+        return Extent::Cut;
+    }
+    let size = p[at + n];
+    if limit < size {
+        return Extent::LengthOver(at + n);
+    }
+    Extent::Ends(at + n + 1 + size as usize)
+}
+
 fn next_text(p: &[u8], e: Extent, limit: u8) -> Extent
     ensures { λ r. ⌜ (r ≡ lateNext (text limit) (now (p .entry)) e) × (placeOf r ≤ length (now (p .entry)) + 256) ⌝ }
 {
@@ -113,7 +129,7 @@ fn det_end(p: &[u8], at: usize) -> Extent
     requires { ⌜ at ≤ length (now p) ⌝ }
     ensures { λ r. ⌜ r ≡ fieldsEnd (layout Det) (now (p .entry)) (Ends at) ⌝ }
 {
-    let designator = text_end(p, at + 2 + 1, 128);
+    let designator = text_behind(p, at, 2 + 1, 128);
     let number = skip(designator, 2);
     let parent = skip(number, 2);
     let list = next_entries(p, parent);
@@ -125,7 +141,7 @@ fn dpd_end(p: &[u8], at: usize) -> Extent
     requires { ⌜ at ≤ length (now p) ⌝ }
     ensures { λ r. ⌜ r ≡ fieldsEnd (layout Dpd) (now (p .entry)) (Ends at) ⌝ }
 {
-    let designator = text_end(p, at + 2 + 2 + 1 + 1, 128);
+    let designator = text_behind(p, at, 2 + 2 + 1 + 1, 128);
     let presentation = skip(designator, 2);
     close(p, presentation)
 }
@@ -135,7 +151,7 @@ fn dpt_end(p: &[u8], at: usize) -> Extent
     requires { ⌜ at ≤ length (now p) ⌝ }
     ensures { λ r. ⌜ r ≡ fieldsEnd (layout Dpt) (now (p .entry)) (Ends at) ⌝ }
 {
-    let designator = text_end(p, at + 2 + 2 + 4, 128);
+    let designator = text_behind(p, at, 2 + 2 + 4, 128);
     let presentation = skip(designator, 2);
     close(p, presentation)
 }
@@ -145,7 +161,7 @@ fn dvp_end(p: &[u8], at: usize) -> Extent
     requires { ⌜ at ≤ length (now p) ⌝ }
     ensures { λ r. ⌜ r ≡ fieldsEnd (layout Dvp) (now (p .entry)) (Ends at) ⌝ }
 {
-    let unit = text_end(p, at + 2 + 4 + 4 + 1, 128);
+    let unit = text_behind(p, at, 2 + 4 + 4 + 1, 128);
     close(p, unit)
 }
 

@@ -27,8 +27,7 @@ pub fn kind(p: &[u8], at: u16) -> u16
     super::mark_number(super::mark_of(p[start], p[start + 1], p[start + 2]))
 }
 
-// The same where a mark stands: two of its letters tell it from the others. Process data and properties, of which a pool has most and
-// in any order, are told apart without a branch: their third letters are 68 and 84.
+// The same where a mark stands, for a caller that goes on by the kind: two letters of the mark tell it from the others.
 pub fn marked_kind(p: &[u8], at: u16) -> u16
     requires { ⌜ (markNumber (markOf (three (now p) at)) ≡ 0 → ⊥) ⌝ }
     ensures { λ r. ⌜ r ≡ markNumber (markOf (three (now (p .entry)) at)) ⌝ }
@@ -37,7 +36,10 @@ pub fn marked_kind(p: &[u8], at: u16) -> u16
     let second = p[start + 1];
     let third = p[start + 2];
     if second == b'P' {
-        return 3 + (third as u16 - 68) / 16;
+        if third == b'D' {
+            return 3;
+        }
+        return 4;
     }
     if second == b'E' {
         return 2;
@@ -46,6 +48,17 @@ pub fn marked_kind(p: &[u8], at: u16) -> u16
         return 5;
     }
     1
+}
+
+// The same without a branch, for a caller that keeps the kind or compares it: the two letters as a number, times 6663, have the kind in
+// bits 15 to 17.
+pub fn kind_number(p: &[u8], at: u16) -> u16
+    requires { ⌜ (markNumber (markOf (three (now p) at)) ≡ 0 → ⊥) ⌝ }
+    ensures { λ r. ⌜ r ≡ markNumber (markOf (three (now (p .entry)) at)) ⌝ }
+{
+    let start = at as usize;
+    let letters = p[start + 1] as usize + 256 * p[start + 2] as usize;
+    (letters * 6663 / 32768 % 8) as u16
 }
 
 // The object ID, in a record of any kind.

@@ -1,21 +1,20 @@
 -- `records::end::det_end` meets its contract. Assumes nothing.
 use mathlib.Core.Path.{_≡_, sym, ap, _∙_}
-use Rattle.records.specs.Layout.{fixed, entries, layout}
-use Rattle.records.specs.Late.{lateNext, closed}
+use Prim.Native.Nat.{_+_}
+use native.Mathlib.Omega.{arith}
+use Rattle.records.specs.Layout.{fixed, entries, text, layout}
+use Rattle.records.specs.Late.{lateField, lateNext, closed}
 use Rattle.records.specs.declared.Kind.the-variants.{Det}
 use Rattle.records.proofs.Late.{late}
 use borrow.Author.Needs.{needs}
 use Rattle.records.proofs.end.det_end.Statement.{statement}
 use Rattle.records.proofs.end.det_end.Tie as tie
 
-add-text-end : tie.Need-add-text-end
-add-text-end c = search needs
+add-text-behind : tie.Need-add-text-behind
+add-text-behind c = search needs
 
-add-text-end-2 : tie.Need-add-text-end-2
-add-text-end-2 c = search needs
-
-text-end-requires : tie.Need-text-end-requires
-text-end-requires c κs = search needs
+text-behind-requires : tie.Need-text-behind-requires
+text-behind-requires c κs = search needs
 
 skip-requires : tie.Need-skip-requires
 skip-requires c κs = search needs
@@ -33,7 +32,8 @@ returns : tie.Need-returns
 unfolding layout
 returns c =
     let p = c .before .before .before .before .before .before .args .p .now in
-    let number = c .before .before .before .skip .ensures .0 p ∙ ap (lateNext (fixed 2) p) (c .before .before .before .before .text-end .ensures .0) in
+    let place : c .before .before .before .before .before .before .args .at + 3 ≡ c .before .before .before .before .before .before .args .at + 2 + 1 = omega arith in
+    let number = c .before .before .before .skip .ensures .0 p ∙ ap (lateNext (fixed 2) p) (c .before .before .before .before .text-behind .ensures .0 ∙ ap (lateField (text 128) p) place) in
     let parent = c .before .before .skip2 .ensures .0 p ∙ ap (lateNext (fixed 2) p) number in
     c .close .ensures ∙ ap (closed p) (c .before .next-entries .ensures ∙ ap (lateNext entries p) parent) ∙ sym (late (layout Det) p (c .before .before .before .before .before .before .args .at) (c .before .before .before .before .before .before .pre))
 
@@ -41,9 +41,8 @@ pub det-end-spec : {M : Type 1} → statement M
 det-end-spec =
     tie.close
     (tie.spec
-    add-text-end
-    add-text-end-2
-    text-end-requires
+    add-text-behind
+    text-behind-requires
     skip-requires
     skip-requires-2
     next-entries-requires

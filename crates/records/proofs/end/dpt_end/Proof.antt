@@ -1,24 +1,23 @@
 -- `records::end::dpt_end` meets its contract. Assumes nothing.
 use mathlib.Core.Path.{_≡_, sym, ap, _∙_}
-use Rattle.records.specs.Layout.{fixed, layout}
-use Rattle.records.specs.Late.{lateNext, closed}
+use Prim.Native.Nat.{_+_}
+use native.Mathlib.Omega.{arith}
+use Rattle.records.specs.Layout.{fixed, text, layout}
+use Rattle.records.specs.Late.{lateField, lateNext, closed}
 use Rattle.records.specs.declared.Kind.the-variants.{Dpt}
 use Rattle.records.proofs.Late.{late}
 use borrow.Author.Needs.{needs}
 use Rattle.records.proofs.end.dpt_end.Statement.{statement}
 use Rattle.records.proofs.end.dpt_end.Tie as tie
 
-add-text-end : tie.Need-add-text-end
-add-text-end c = search needs
+add-text-behind : tie.Need-add-text-behind
+add-text-behind c = search needs
 
-add-text-end-2 : tie.Need-add-text-end-2
-add-text-end-2 c = search needs
+add-text-behind-2 : tie.Need-add-text-behind-2
+add-text-behind-2 c = search needs
 
-add-text-end-3 : tie.Need-add-text-end-3
-add-text-end-3 c = search needs
-
-text-end-requires : tie.Need-text-end-requires
-text-end-requires c κs = search needs
+text-behind-requires : tie.Need-text-behind-requires
+text-behind-requires c κs = search needs
 
 skip-requires : tie.Need-skip-requires
 skip-requires c κs = search needs
@@ -30,16 +29,16 @@ returns : tie.Need-returns
 unfolding layout
 returns c =
     let p = c .before .before .before .before .args .p .now in
-    c .close .ensures ∙ ap (closed p) (c .before .skip .ensures .0 p ∙ ap (lateNext (fixed 2) p) (c .before .before .text-end .ensures .0)) ∙ sym (late (layout Dpt) p (c .before .before .before .before .args .at) (c .before .before .before .before .pre))
+    let place : c .before .before .before .before .args .at + 8 ≡ c .before .before .before .before .args .at + 2 + 2 + 4 = omega arith in
+    c .close .ensures ∙ ap (closed p) (c .before .skip .ensures .0 p ∙ ap (lateNext (fixed 2) p) (c .before .before .text-behind .ensures .0 ∙ ap (lateField (text 128) p) place)) ∙ sym (late (layout Dpt) p (c .before .before .before .before .args .at) (c .before .before .before .before .pre))
 
 pub dpt-end-spec : {M : Type 1} → statement M
 dpt-end-spec =
     tie.close
     (tie.spec
-    add-text-end
-    add-text-end-2
-    add-text-end-3
-    text-end-requires
+    add-text-behind
+    add-text-behind-2
+    text-behind-requires
     skip-requires
     close-requires
     returns)
