@@ -2,12 +2,13 @@
 use mathlib.Core.Path.{_≡_, refl, sym, ap, _∙_}
 use mathlib.Core.Bool.{Bool, true, false, true≢false, cond, not, _&&_}
 use mathlib.Core.List.{List}
-use Prim.Native.Nat.{ℕ, zero, suc, _+_, _*_, _/_, _%_, _≤_, _<_}
-use native.Mathlib.Nat.{not-suc-le-zero, mod-lt, div-lt-iff-lt-mul, mul-lt-mul-of-pos-right}
+use Prim.Native.Nat.{ℕ, zero, suc, _+_, _-_, _≤_, _<_}
+use native.Mathlib.Nat.{not-suc-le-zero}
 use native.Mathlib.Numerals.{add-one}
 use native.Mathlib.Decide.{ℕ-discrete, decLt}
 use native.Mathlib.Omega.{arith}
 use borrow.Author.Tests.{eq-eqb, ne-eqb, eqb-true}
+use lib.Bits.{and-le-r}
 use lib.Dec.{eqb}
 use lib.ListN.{length, getD, set, length-set}
 use lib.Seq.{getD-set-same, getD-set-other}
@@ -16,14 +17,9 @@ use Rattle.naming.proofs.First.{Without, first-none, first-some, first-
 use Rattle.naming.specs.Chained.{slot, opens, lastOf, linkOf, Chained}
 
 -- every key has a slot
-pub slot-product : (m x : ℕ) → 0 < m → x * 40503 % 65536 * m < 65536 * m
-slot-product m x some = mul-lt-mul-of-pos-right (mod-lt (x * 40503) (omega arith)) some
-
 pub slot-lt : (m x : ℕ) → 0 < m → slot m x < m
 unfolding slot
-slot-lt m x some =
-    let below = slot-product m x some in
-    div-lt-iff-lt-mul {k = 65536} {x = x * 40503 % 65536 * m} {y = m} (omega arith) .1 (omega (arith, below))
+slot-lt m x some = omega (arith, and-le-r x (m - 1))
 
 -- a record opens its key if no earlier one has it
 module _ (key : ℕ → ℕ) (i : ℕ) where
@@ -184,7 +180,6 @@ module _ (key : ℕ → ℕ) (n : ℕ) (heads next : List ℕ) (c : Chained key 
       let shut : opens key n ≡ false = ne-eqb (firstOf key (key n) n) 0 h in
       record {
         some = c .some;
-        few = c .few;
         top = λ b l. c .top b l ∙ sym (last-shut key (length heads) b n shut);
         below = linked 65535 (rw shut);
       }
@@ -195,7 +190,6 @@ module _ (key : ℕ → ℕ) (n : ℕ) (heads next : List ℕ) (c : Chained key 
   chained-open z =
       record {
         some = rw long (c .some);
-        few = rw long (c .few);
         top = λ b l. rw long (tops b (rw long at l) (ℕ-discrete b r));
         below = rw long (linked (getD heads r 0) (c .top r small ∙ rw opened));
       }
@@ -217,9 +211,9 @@ module _ (key : ℕ → ℕ) (n : ℕ) (heads next : List ℕ) (c : Chained key 
       tops b l (no e) = getD-set-other heads (slot (length heads) (key n)) b (suc n) 0 e ∙ c .top b l ∙ sym (last-other key (length heads) b n (λ (q : slot (length heads) (key n) ≡ b). e (sym q)))
 
 -- no record yet
-pub chained-none : (key : ℕ → ℕ) (heads next : List ℕ) → 0 < length heads → length heads ≤ 65536 → ((x : ℕ) → getD heads x 0 ≡ 0) → Chained key 0 heads next
+pub chained-none : (key : ℕ → ℕ) (heads next : List ℕ) → 0 < length heads → ((x : ℕ) → getD heads x 0 ≡ 0) → Chained key 0 heads next
 unfolding lastOf
-chained-none key heads next s few blank = record { some = s; few = few; top = λ b l. blank b; below = λ i l. absurd (not-suc-le-zero l) }
+chained-none key heads next s blank = record { some = s; top = λ b l. blank b; below = λ i l. absurd (not-suc-le-zero l) }
 
 -- the mark stands exactly where a record does not open its key
 pub unmarked : (key : ℕ → ℕ) (n : ℕ) (heads next : List ℕ) → Chained key n heads next → n < 65535 → (i : ℕ) → i < n → eqb (getD next (suc i) 0) 65535 ≡ not (opens key i)

@@ -1,19 +1,20 @@
 -- Records by slots of their keys: a head for each slot, and a link from each record to an earlier one. No contract of a call rests on
 -- these. Definitions only.
-use Prim.Native.Nat.{ℕ, zero, suc, _-_, _*_, _/_, _%_, _≤_, _<_}
+use Prim.Native.Nat.{ℕ, zero, suc, _-_, _≤_, _<_}
 use mathlib.Core.Path.{_≡_}
 use mathlib.Core.Bool.{Bool, cond, _&&_}
 use mathlib.Core.List.{List}
+use lib.Bits.{bitAnd}
 use lib.Dec.{eqb}
 use lib.ListN.{length, getD}
 use Rattle.pool.specs.Walk.{Divided}
 use Rattle.naming.specs.Naming.{firstOf}
 use Rattle.naming.specs.Lists.{idIn}
 
--- the slot of a key among m: 16 bits of a multiple, so that neighbours and keys in equal steps lie apart, scaled to m. As many keys of
--- 16 bits have one slot as have another, but for one
+-- the slot of a key among m, a power of two: the lowest bits of the key, so that neighbours lie apart. At most 65,536 / m keys of 16 bits
+-- have one slot
 unfoldable pub slot : ℕ → ℕ → ℕ
-slot m x = x * 40503 % 65536 * m / 65536
+slot m x = bitAnd x (m - 1)
 
 -- whether no record before record i has its key
 unfoldable pub opens : (ℕ → ℕ) → ℕ → Bool
@@ -31,7 +32,6 @@ linkOf key m i = cond (opens key i) (lastOf key m (slot m (key i)) i) 65535
 -- the lists of the first n records
 pub record Chained (key : ℕ → ℕ) (n : ℕ) (heads next : List ℕ) : Type 0 where
   pub some : 0 < length heads
-  pub few : length heads ≤ 65536
   pub top : (b : ℕ) → b < length heads → getD heads b 0 ≡ lastOf key (length heads) b n
   pub below : (i : ℕ) → i < n → getD next (suc i) 0 ≡ linkOf key (length heads) i
 

@@ -14,10 +14,10 @@ ghost use Rattle.naming.specs.Chained.{slot, Chained, Names};
 
 // The slot of an ID among so many heads.
 fn slot_of(id: u16, heads: usize) -> usize
-    requires { ⌜ (0 < heads) × (heads ≤ 65536) ⌝ }
+    requires { ⌜ 0 < heads ⌝ }
     ensures { λ r. ⌜ r ≡ slot heads id ⌝ }
 {
-    id as usize * 40503 % 65536 * heads / 65536
+    id as usize & (heads - 1)
 }
 
 // The ID of record i.
@@ -64,7 +64,7 @@ fn enter(p: &[u8], starts: &[u16], i: usize, heads: &mut [u16], next: &mut [u16]
 
 // Lists the records by ID.
 pub fn name_ids(p: &[u8], starts: &[u16], heads: &mut [u16], next: &mut [u16])
-    requires { ⌜ Divided (now p) (now starts) × (length (now starts) ≤ length (now next)) × (0 < length (now heads)) × (length (now heads) ≤ 65536) × Blank (now heads) ⌝ }
+    requires { ⌜ Divided (now p) (now starts) × (length (now starts) ≤ length (now next)) × (0 < length (now heads)) × Blank (now heads) ⌝ }
     ensures { λ _. ⌜ Names (now (p .entry)) (now (starts .entry)) (now (heads .exit)) (now (next .exit)) ⌝ }
 {
     let count = starts.len() - 1;
@@ -110,7 +110,7 @@ pub fn kind_at(p: &[u8], starts: &[u16], number: u16) -> u16
     if number == 0 {
         return 0;
     }
-    records::view::marked_kind(p, starts[number as usize - 1])
+    records::view::kind_number(p, starts[number as usize - 1])
 }
 
 // The number of the device element that the parent of the record with a number names, 0 where a chain ends.

@@ -16,7 +16,7 @@ abbrev μ-loop : tie.MeasureT-loop
 μ-loop p starts count heads next id head r₀ r = r
 
 slot-of-requires : tie.Need-slot-of-requires Inv-loop μ-loop
-slot-of-requires c κs = (c .before .before .before .before .pre .3 .some, c .before .before .before .before .pre .3 .few)
+slot-of-requires c κs = c .before .before .before .before .pre .3 .some
 
 mul-r : tie.Need-mul-r Inv-loop μ-loop
 mul-r c = omega (arith, c .slot-of .ensures, slot-lt (length (c .before .before .before .before .before .args .heads .now)) (c .before .before .before .before .before .args .id) (c .before .before .before .before .before .pre .3 .some), c .before .before .before .before .before .good)

@@ -12,29 +12,29 @@ use Rattle.naming.proofs.kind_at.Tie as tie
 returns : tie.Need-returns
 returns c = search needs
 
-sub-marked-kind : tie.Need-sub-marked-kind
-sub-marked-kind c = search needs
+sub-kind-number : tie.Need-sub-kind-number
+sub-kind-number c = search needs
 
-mul-marked-kind : tie.Need-mul-marked-kind
-mul-marked-kind c = search needs
+mul-kind-number : tie.Need-mul-kind-number
+mul-kind-number c = search needs
 
-shared-slice-read-marked-kind : tie.Need-shared-slice-read-marked-kind
-shared-slice-read-marked-kind c = search needs
+shared-slice-read-kind-number : tie.Need-shared-slice-read-kind-number
+shared-slice-read-kind-number c = search needs
 
-marked-kind-requires : tie.Need-marked-kind-requires
-marked-kind-requires c κs =
+kind-number-requires : tie.Need-kind-number-requires
+kind-number-requires c κs =
     starts-marked (c .before .before .before .before .args .p .now) (c .before .before .before .before .args .starts .now) (c .before .before .before .before .pre .0) (c .before .before .before .before .args .number - 1) (omega (arith, c .before .before .before .before .pre .1, c .before .if1 .left))
 
 returns-2 : tie.Need-returns-2
-returns-2 c = c .marked-kind .ensures ∙ kind-read (c .before .before .before .before .before .args .p .now) (c .before .before .before .before .before .args .starts .now) (c .before .before .before .before .before .args .number) (c .before .before .if1 .left) (c .before .before .before .before .before .pre .1)
+returns-2 c = c .kind-number .ensures ∙ kind-read (c .before .before .before .before .before .args .p .now) (c .before .before .before .before .before .args .starts .now) (c .before .before .before .before .before .args .number) (c .before .before .if1 .left) (c .before .before .before .before .before .pre .1)
 
 pub kind-at-spec : {M : Type 1} → statement M
 kind-at-spec =
     tie.close
     (tie.spec
     returns
-    sub-marked-kind
-    mul-marked-kind
-    shared-slice-read-marked-kind
-    marked-kind-requires
+    sub-kind-number
+    mul-kind-number
+    shared-slice-read-kind-number
+    kind-number-requires
     returns-2)

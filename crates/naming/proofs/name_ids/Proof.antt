@@ -21,7 +21,7 @@ sub-count c = omega (arith, c .before .before .before .before .pre .0 .some)
 loop-holds : tie.Need-loop-holds Inv-loop μ-loop
 loop-holds c =
     let s = c .before .before .before .before in
-    (omega arith, refl, refl, chained-none (idIn (s .args .p .now) (s .args .starts .now)) (s .args .heads .now) (s .args .next .now) (s .pre .2) (s .pre .3) (s .pre .4))
+    (omega arith, refl, refl, chained-none (idIn (s .args .p .now) (s .args .starts .now)) (s .args .heads .now) (s .args .next .now) (s .pre .2) (s .pre .3))
 
 enter-requires : tie.Need-enter-requires Inv-loop μ-loop
 enter-requires c κs =
