@@ -1,8 +1,9 @@
 -- The rows of a record: rules 1 and 2, and then those of its kind. Assumes nothing.
-use mathlib.Core.Path.{_≡_}
-use mathlib.Core.Bool.{Bool, false, _||_}
+use mathlib.Core.Path.{_≡_, refl}
+use mathlib.Core.Bool.{Bool, true, false, not, _||_}
 use mathlib.Core.List.{List}
 use Prim.Native.Nat.{ℕ, _+_}
+use borrow.Author.Tests.{not-true}
 use lib.ListN.{length}
 use Rattle.faults.specs.Rows.{AllClear}
 use Rattle.faults.specs.Emission.{Puts}
@@ -22,6 +23,10 @@ module _ (p : List ℕ) (es : List Entry) (i k : ℕ) (kind-is : k ≡ kindAt es
   record-clear none clear =
       let own = clear-both bad again none in
       rw (← kind-is, ← bad-is, ← again-is) (λ m l. own .0, (λ m l. own .1, clear))
+
+-- one look at rules 1 and 2, and one at the rows of the kind
+pub record-looked : (p : List ℕ) (es : List Entry) (i k : ℕ) → k ≡ kindAt es i → not (badOwn k (idAt es i) || repeats (idAt es) (idAt es i) i (length es)) ≡ true → AllClear (kindRows p es i k) → AllClear (recordRows p es i)
+record-looked p es i k kind-is own = record-clear p es i k kind-is (badOwn k (idAt es i)) (repeats (idAt es) (idAt es i) i (length es)) refl refl (not-true _ own)
 
 -- a presentation by what its ID names
 pub presented : (es : List Entry) {n : ℕ} {b₀ b₁ : List ℕ} {k₀ k₁ : ℕ} (x r k : ℕ) → r ≡ named es x → k ≡ kindOf es r → Puts n (presentationRows x r k) b₀ k₀ b₁ k₁

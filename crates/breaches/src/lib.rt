@@ -33,12 +33,11 @@ pub fn put_other(
     requires { ⌜ Names (now p) (now starts) (now heads) (now next) × (i + 1 < length (now starts)) × (device ≡ firstOf (kindAt (entriesOf (now p) (now starts))) 1 (length (entriesOf (now p) (now starts)))) × (kind ≡ kindAt (entriesOf (now p) (now starts)) i) × (kind ≡ 2 → ⊥) × (n < 2 ^ 37) ⌝ }
     ensures { λ r. ⌜ Puts (i + 1) (recordRows (now (p .entry)) (entriesOf (now (p .entry)) (now (starts .entry))) i) (now (faults .entry)) n (now (faults .exit)) r × (r ≤ n + 98313) ⌝ }
 {
-    let at = starts[i];
-    let bad = fields::is_bad_id(kind, records::view::id(p, at));
-    let again = naming::repeats_id(p, starts, heads, next, i);
-    if look::is_clear_other(p, starts, heads, next, at, kind, bad | again) {
+    if look::is_clear_other(p, starts, heads, next, i, kind) {
         return n;
     }
+    let bad = fields::is_bad_id(kind, records::view::id(p, starts[i]));
+    let again = naming::repeats_id(p, starts, heads, next, i);
     other::put_faults(
         p,
         starts,
@@ -67,7 +66,7 @@ pub fn put_element(
     kind: u16,
     again: bool,
     endless: bool,
-    seen: &mut [u16],
+    seen: &mut [u8],
     faults: &mut [u16],
     n: usize,
 ) -> usize

@@ -1,21 +1,18 @@
-// Whether a record has no fault, by one look at it, whose tests are joined without a branch between them. A look may leave a record
-// without a fault undecided, and never the other way. Fields are read behind one test that the record reaches no further than the
-// pool.
+// Whether a record has no fault, by one look at it, with few branches between its tests. A look may leave a record without a fault
+// undecided, and never the other way. Fields are read behind one or two tests that the pool reaches so far.
 use records::DeviceElement;
 ghost use mathlib.Core.Path.{_≡_};
 ghost use mathlib.Core.Bool.{true, false, not, _||_};
-ghost use mathlib.Core.Logic.{_⊎_};
 ghost use Prim.Native.Nat.{ℕ, _+_, _*_, _≤_, _<_};
-ghost use lib.Dec.{ltb};
 ghost use lib.ListN.{length};
 ghost use Rattle.wire.specs.Bytes.{numberAt};
-ghost use Rattle.views.specs.Fields.{entryOf, processDataOf, presentationOf};
+ghost use Rattle.views.specs.Fields.{entryOf};
 ghost use Rattle.faults.specs.Rows.{AllClear};
 ghost use Rattle.pool.specs.Walk.{entriesOf};
-ghost use Rattle.naming.specs.Records.{startAt};
+ghost use Rattle.naming.specs.Records.{idAt, kindAt};
 ghost use Rattle.naming.specs.Naming.{tagOf};
 ghost use Rattle.naming.specs.Chained.{Names};
-ghost use Rattle.rules.specs.Table.{badSource, isParent, entryNamed, fieldRows, presentedRows, valueRows, kindRows};
+ghost use Rattle.rules.specs.Table.{badOwn, repeats, isParent, entryNamed, fieldRows, presentedRows, recordRows};
 ghost use Rattle.fields.specs.Clean.{Apart};
 
 // Rules 6 and 7 of a presentation's ID.
@@ -30,81 +27,95 @@ fn is_presented(p: &[u8], starts: &[u16], heads: &[u16], next: &[u16], id: u16) 
     naming::kind_at(p, starts, named) == 5
 }
 
-// Where the text of process data stands, or of a property.
-fn text_from(at: u16, kind: u16) -> usize
-    ensures { λ r. ⌜ (kind ≡ 3 → r ≡ at + 9) × ((kind ≡ 3 → ⊥) → r ≡ at + 11) ⌝ }
+// Rules 1 and 2 of record i, which has a kind.
+fn is_own(p: &[u8], starts: &[u16], heads: &[u16], next: &[u16], i: usize, kind: u16) -> bool
+    requires { ⌜ Names (now p) (now starts) (now heads) (now next) × (i + 1 < length (now starts)) ⌝ }
+    ensures { λ r. ⌜ r ≡ not (badOwn kind (idAt (entriesOf (now (p .entry)) (now (starts .entry))) i) || repeats (idAt (entriesOf (now (p .entry)) (now (starts .entry)))) (idAt (entriesOf (now (p .entry)) (now (starts .entry))) i) i (length (entriesOf (now (p .entry)) (now (starts .entry))))) ⌝ }
 {
-    if kind == 3 {
-        return at as usize + 9;
-    }
-    at as usize + 11
+    let bad = fields::is_bad_id(kind, records::view::id(p, starts[i]));
+    !(bad | naming::repeats_id(p, starts, heads, next, i))
 }
 
-// Rule 5 of process data; it has nothing to say of a property.
-fn is_fit(p: &[u8], at: u16, kind: u16) -> bool
-    ensures { λ r. ⌜ (kind ≡ 3 → r ≡ not (ltb 7 (processDataOf (now (p .entry)) at .properties) || badSource (processDataOf (now (p .entry)) at .properties) || ltb 31 (processDataOf (now (p .entry)) at .triggers))) ⌝ }
+fn is_clear_data(p: &[u8], starts: &[u16], heads: &[u16], next: &[u16], i: usize) -> bool
+    requires { ⌜ Names (now p) (now starts) (now heads) (now next) × (i + 1 < length (now starts)) ⌝ }
+    ensures { λ r. ⌜ (r ≡ true → kindAt (entriesOf (now (p .entry)) (now (starts .entry))) i ≡ 3 → AllClear (recordRows (now (p .entry)) (entriesOf (now (p .entry)) (now (starts .entry))) i)) ⌝ }
 {
-    if kind == 3 {
-        return fields::is_fit_data(views::process_data(p, at));
-    }
-    true
-}
-
-// Process data or a property: they differ in where the text stands, and in what rule 5 says.
-fn is_clear_data(p: &[u8], starts: &[u16], heads: &[u16], next: &[u16], at: u16, kind: u16) -> bool
-    requires { ⌜ Names (now p) (now starts) (now heads) (now next) × ((kind ≡ 3) ⊎ (kind ≡ 4)) ⌝ }
-    ensures { λ r. ⌜ (r ≡ true → (i : ℕ) → at ≡ startAt (entriesOf (now (p .entry)) (now (starts .entry))) i → AllClear (kindRows (now (p .entry)) (entriesOf (now (p .entry)) (now (starts .entry))) i kind)) ⌝ }
-{
-    let text_at = text_from(at, kind);
-    if p.len() <= text_at {
+    let at = starts[i];
+    let text_at = at as usize + 9;
+    if p.len() < text_at + 3 {
         return false;
     }
     let to = text_at + 1 + p[text_at] as usize;
     if p.len() < to + 2 {
         return false;
     }
-    let presentation = wire::pair(p, to);
-    (is_fit(p, at, kind) & is_presented(p, starts, heads, next, presentation))
-        & text::is_sound_in(p, text_at + 1, to)
+    let own = is_own(p, starts, heads, next, i, 3);
+    let fit = fields::is_fit_data(views::process_data(p, at));
+    if !((own & fit) & text::is_sound_in(p, text_at + 1, to)) {
+        return false;
+    }
+    is_presented(p, starts, heads, next, wire::pair(p, to))
 }
 
-fn is_clear_value(p: &[u8], at: u16) -> bool
-    ensures { λ r. ⌜ (r ≡ true → AllClear (valueRows (now (p .entry)) (presentationOf (now (p .entry)) at))) ⌝ }
+fn is_clear_property(p: &[u8], starts: &[u16], heads: &[u16], next: &[u16], i: usize) -> bool
+    requires { ⌜ Names (now p) (now starts) (now heads) (now next) × (i + 1 < length (now starts)) ⌝ }
+    ensures { λ r. ⌜ (r ≡ true → kindAt (entriesOf (now (p .entry)) (now (starts .entry))) i ≡ 4 → AllClear (recordRows (now (p .entry)) (entriesOf (now (p .entry)) (now (starts .entry))) i)) ⌝ }
 {
+    let at = starts[i];
+    let text_at = at as usize + 11;
+    if p.len() < text_at + 3 {
+        return false;
+    }
+    let to = text_at + 1 + p[text_at] as usize;
+    if p.len() < to + 2 {
+        return false;
+    }
+    let own = is_own(p, starts, heads, next, i, 4);
+    if !(own & text::is_sound_in(p, text_at + 1, to)) {
+        return false;
+    }
+    is_presented(p, starts, heads, next, wire::pair(p, to))
+}
+
+fn is_clear_value(p: &[u8], starts: &[u16], heads: &[u16], next: &[u16], i: usize) -> bool
+    requires { ⌜ Names (now p) (now starts) (now heads) (now next) × (i + 1 < length (now starts)) ⌝ }
+    ensures { λ r. ⌜ (r ≡ true → kindAt (entriesOf (now (p .entry)) (now (starts .entry))) i ≡ 5 → AllClear (recordRows (now (p .entry)) (entriesOf (now (p .entry)) (now (starts .entry))) i)) ⌝ }
+{
+    let at = starts[i];
     if p.len() < at as usize + 15 {
         return false;
     }
+    let own = is_own(p, starts, heads, next, i, 5);
     let v = views::value_presentation(p, at);
-    fields::is_fit_value(v) & text::is_sound_in(p, v.unit.from, v.unit.to)
+    (own & fields::is_fit_value(v)) & text::is_sound_in(p, v.unit.from, v.unit.to)
 }
 
-// A record that is no device element, unless rule 1 or 2 has found something. A device is rare, and not looked at.
+// Record i, which is no device element, by its kind. A device is rare, and not looked at.
 pub(crate) fn is_clear_other(
     p: &[u8],
     starts: &[u16],
     heads: &[u16],
     next: &[u16],
-    at: u16,
+    i: usize,
     kind: u16,
-    found: bool,
 ) -> bool
-    requires { ⌜ Names (now p) (now starts) (now heads) (now next) ⌝ }
-    ensures { λ r. ⌜ (r ≡ true → (found ≡ false) × ((i : ℕ) → at ≡ startAt (entriesOf (now (p .entry)) (now (starts .entry))) i → AllClear (kindRows (now (p .entry)) (entriesOf (now (p .entry)) (now (starts .entry))) i kind))) ⌝ }
+    requires { ⌜ Names (now p) (now starts) (now heads) (now next) × (i + 1 < length (now starts)) × (kind ≡ kindAt (entriesOf (now p) (now starts)) i) ⌝ }
+    ensures { λ r. ⌜ (r ≡ true → AllClear (recordRows (now (p .entry)) (entriesOf (now (p .entry)) (now (starts .entry))) i)) ⌝ }
 {
-    if found {
-        return false;
+    if kind == 3 {
+        return is_clear_data(p, starts, heads, next, i);
     }
-    if (kind == 3) | (kind == 4) {
-        return is_clear_data(p, starts, heads, next, at, kind);
+    if kind == 4 {
+        return is_clear_property(p, starts, heads, next, i);
     }
     if kind == 5 {
-        return is_clear_value(p, at);
+        return is_clear_value(p, starts, heads, next, i);
     }
     false
 }
 
-// Rules 6, 7 and 12 of a list of entries. Each DDI stamps the place of its remainder with the record's number: where that stands
-// already, the DDI may be in the list twice, and the walk over the list decides that.
+// Rules 6, 7 and 12 of a list of entries. Each DDI stamps the place of its remainder with a number that records near by do not have:
+// where that stands already, the DDI may be in the list twice, and the walk over the list decides that.
 fn is_clear_list(
     p: &[u8],
     starts: &[u16],
@@ -114,20 +125,21 @@ fn is_clear_list(
     from: usize,
     size: usize,
     number: u16,
-    seen: &mut [u16],
+    seen: &mut [u8],
 ) -> bool
     requires { ⌜ Names (now p) (now starts) (now heads) (now next) × (1024 ≤ length (now seen)) × (size < 65536) × (from + 2 * size ≤ length (now p)) × ((m : ℕ) → entryOf (now p) at m ≡ numberAt 2 (now p) (from + 2 * m)) ⌝ }
     ensures { λ r. ⌜ (r ≡ true → Apart (λ (m : ℕ). tagOf (now (p .entry)) (entriesOf (now (p .entry)) (now (starts .entry))) (entryNamed (now (p .entry)) (entriesOf (now (p .entry)) (now (starts .entry))) at m)) size) ⌝ }
 {
+    let stamp = (1 + number % 255) as u8;
     let mut m: usize = 0;
     while m < size {
         let named = naming::named_at(p, starts, heads, next, wire::pair(p, from + 2 * m));
         let tag = elements::tag_at(p, starts, named);
         let place = tag % 1024;
-        if (tag == 0) | (seen[place] == number) {
+        if (tag == 0) | (seen[place] == stamp) {
             return false;
         }
-        seen[place] = number;
+        seen[place] = stamp;
         m += 1;
     }
     true
@@ -142,7 +154,7 @@ fn is_clear_entries(
     at: u16,
     size: usize,
     number: u16,
-    seen: &mut [u16],
+    seen: &mut [u8],
 ) -> bool
     requires { ⌜ Names (now p) (now starts) (now heads) (now next) × (1024 ≤ length (now seen)) × (size ≤ 32768) ⌝ }
     ensures { λ r. ⌜ (r ≡ true → Apart (λ (m : ℕ). tagOf (now (p .entry)) (entriesOf (now (p .entry)) (now (starts .entry))) (entryNamed (now (p .entry)) (entriesOf (now (p .entry)) (now (starts .entry))) at m)) size) ⌝ }
@@ -168,7 +180,7 @@ pub(crate) fn is_clear_element(
     kind: u16,
     found: bool,
     number: u16,
-    seen: &mut [u16],
+    seen: &mut [u8],
 ) -> bool
     requires { ⌜ Names (now p) (now starts) (now heads) (now next) × (1024 ≤ length (now seen)) × (e .entries ≤ 32768) ⌝ }
     ensures { λ r. ⌜ (r ≡ true → (found ≡ false) × AllClear (fieldRows (now (p .entry)) e) × (isParent kind ≡ true) × Apart (λ (m : ℕ). tagOf (now (p .entry)) (entriesOf (now (p .entry)) (now (starts .entry))) (entryNamed (now (p .entry)) (entriesOf (now (p .entry)) (now (starts .entry))) at m)) (e .entries)) ⌝ }

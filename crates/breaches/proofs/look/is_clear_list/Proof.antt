@@ -1,7 +1,8 @@
--- `breaches::look::is_clear_list` meets its contract: after m entries their tags are apart and have left the number in their places.
+-- `breaches::look::is_clear_list` meets its contract: after m entries their tags are apart and have left the stamp in their places.
 -- Assumes nothing.
 use mathlib.Core.Path.{_≡_, refl, sym, ap, _∙_}
-use Prim.Native.Nat.{ℕ, _-_, _≤_, _%_}
+use Prim.Native.Nat.{ℕ, _+_, _-_, _≤_, _<_, _%_}
+use native.Mathlib.Nat.{mod-lt}
 use native.Mathlib.Omega.{arith}
 use lib.ListN.{length, length-set}
 use Rattle.pool.specs.Walk.{entriesOf}
@@ -14,11 +15,17 @@ use Rattle.breaches.proofs.look.is_clear_list.Statement.{statement}
 use Rattle.breaches.proofs.look.is_clear_list.Tie as tie
 
 abbrev Inv-loop : tie.InvT-loop
-Inv-loop p starts heads next at from size number seen₀ m₀ seen m =
-    (m ≤ size) × (length seen ≡ length seen₀) × Placed (λ (t : ℕ). t % 1024) (λ (j : ℕ). tagOf p (entriesOf p starts) (entryNamed p (entriesOf p starts) at j)) number m seen
+Inv-loop p starts heads next at from size number seen₀ stamp m₀ seen m =
+    (m ≤ size) × (length seen ≡ length seen₀) × Placed (λ (t : ℕ). t % 1024) (λ (j : ℕ). tagOf p (entriesOf p starts) (entryNamed p (entriesOf p starts) at j)) stamp m seen
 
 abbrev μ-loop : tie.MeasureT-loop
-μ-loop p starts heads next at from size number seen₀ m₀ seen m = size - m
+μ-loop p starts heads next at from size number seen₀ stamp m₀ seen m = size - m
+
+add-stamp : tie.Need-add-stamp Inv-loop μ-loop
+add-stamp c = let few : c .before .before .before .before .before .args .number % 255 < 255 = mod-lt _ (omega arith) in omega (arith, few)
+
+cast-stamp : tie.Need-cast-stamp Inv-loop μ-loop
+cast-stamp c = let few : c .before .before .before .before .before .args .number % 255 < 255 = mod-lt _ (omega arith) in omega (arith, few)
 
 loop-holds : tie.Need-loop-holds Inv-loop μ-loop
 loop-holds c = (omega arith, refl, placed-none _ _ _ _)
@@ -38,9 +45,6 @@ named-at-requires c κs = c .before .before .before .before .before .before .bef
 tag-at-requires : tie.Need-tag-at-requires Inv-loop μ-loop
 tag-at-requires c κs = (names-divided _ _ _ _ (c .before .before .before .before .before .before .before .before .before .pre .0), rw (c .named-at .ensures) (named-inside _ _ _ _ (c .before .before .before .before .before .before .before .before .before .pre .0) (c .before .pair .result)))
 
-mul-if1 : tie.Need-mul-if1 Inv-loop μ-loop
-mul-if1 c = omega arith
-
 slice-read-if1 : tie.Need-slice-read-if1 Inv-loop μ-loop
 slice-read-if1 c = omega (arith, c .before .before .before .before .before .loop .inv .1, c .before .before .before .before .before .before .before .before .before .before .before .pre .1)
 
@@ -49,9 +53,6 @@ same-length c = c .before .before .before .before .before .before .loop .inv .1
 
 returns : tie.Need-returns Inv-loop μ-loop
 returns c e = untrue e
-
-mul-seen : tie.Need-mul-seen Inv-loop μ-loop
-mul-seen c = omega arith
 
 slice-write-seen : tie.Need-slice-write-seen Inv-loop μ-loop
 slice-write-seen c = omega (arith, c .before .before .before .before .before .before .loop .inv .1, c .before .before .before .before .before .before .before .before .before .before .before .before .pre .1)
@@ -71,7 +72,7 @@ loop-again c =
     let is = c .before .before .tag-at .ensures .0 ∙ ap (tagOf (a .p .now) es) (c .before .before .before .named-at .ensures ∙ ap (named es) (c .before .before .before .before .pair .ensures ∙ sym (c .before .before .before .before .before .before .before .before .before .before .before .before .pre .4 (l .m)))) in (
       omega (arith, c .before .before .before .before .before .loop-test .taken),
       simp length-set (l .inv .1),
-      placed-more (λ (t : ℕ). t % 1024) _ (a .number) (l .m) (l .seen) (l .inv .2) (c .before .before .tag-at .result) is (omega (arith, l .inv .1, c .before .before .before .before .before .before .before .before .before .before .before .before .pre .1)) (free .0) (free .1),
+      placed-more (λ (t : ℕ). t % 1024) _ (1 + a .number % 255) (l .m) (l .seen) (l .inv .2) (c .before .before .tag-at .result) is (omega (arith, l .inv .1, c .before .before .before .before .before .before .before .before .before .before .before .before .pre .1)) (free .0) (free .1),
     )
 
 same-length-2 : tie.Need-same-length-2 Inv-loop μ-loop
@@ -88,17 +89,17 @@ is-clear-list-spec =
     (tie.spec
     Inv-loop
     μ-loop
+    add-stamp
+    cast-stamp
     loop-holds
     mul-pair
     add-pair
     pair-requires
     named-at-requires
     tag-at-requires
-    mul-if1
     slice-read-if1
     same-length
     returns
-    mul-seen
     slice-write-seen
     add-m
     loop-less
