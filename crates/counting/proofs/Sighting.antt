@@ -5,7 +5,7 @@ use mathlib.Core.List.{List}
 use Prim.Native.Nat.{ℕ, suc, _+_, _*_, _<_, _≤_}
 use native.Mathlib.Decide.{ℕ-discrete}
 use native.Mathlib.Omega.{arith}
-use borrow.Author.Tests.{eq-eqb, ltb-false}
+use borrow.Author.Tests.{eq-eqb, ltb-false, not-true}
 use lib.Dec.{eqb, ltb}
 use lib.ListN.{length}
 use Rattle.marks.specs.Bits.{bitAt}
@@ -133,3 +133,31 @@ module _ (p starts : List ℕ) where
           noted = λ f. noted-more 4096 (elementKey p (entriesOf p starts)) i numbers (w .noted (plain f .0)) (e .number) key-is (w .room) numbers′ (adds f);
           falling = λ f. subst (Falling p (entriesOf p starts)) (behind i) (falls f);
         }
+
+  -- a usual device element, before any record is marked: its number is noted, and its chain of parents ends
+  module _ (i : ℕ) (l : suc i < length starts) (own : kindAt (entriesOf p starts) i ≡ 2) (e : DeviceElement) (is : e ≡ elementOf p (startAt (entriesOf p starts) i))
+      (parent kind : ℕ) (parent-is : parent ≡ named (entriesOf p starts) (e .parent)) (kind-is : kind ≡ kindOf (entriesOf p starts) parent)
+      (before : Bool) (numbers again endless : List ℕ) (w : Sighted p starts i before numbers again endless)
+      (unusual : Bool) (unusual-is : unusual ≡ (ltb 4095 (e .number) || (eqb kind 2 && ltb i parent))) (none : not (before || unusual) ≡ true) where
+    neither : (before ≡ false) × (unusual ≡ false)
+    neither = clear-both before unusual (not-true (before || unusual) none)
+
+    low : ltb 4095 (e .number) ≡ false
+    low = clear-both (ltb 4095 (e .number)) (eqb kind 2 && ltb i parent) (sym unusual-is ∙ neither .1) .0
+
+    never : {X : Type 0} → false ≡ true → X
+    never t = absurd (true≢false (sym t))
+
+    pub usual-low : e .number < 8 * length numbers
+    usual-low = omega (arith, ltb-false 4095 (e .number) low, w .room)
+
+    pub usual-repeated : (r : Bool) → r ≡ bitAt numbers (e .number) → r ≡ repeats (elementKey p (entriesOf p starts)) (suc (e .number)) i (length (entriesOf p starts))
+    usual-repeated r by-numbers = repeated-is i l own e is before numbers again endless w false again endless never (λ _. (neither .0, low)) r never (λ _. by-numbers)
+
+    pub usual-circling : false ≡ not (eqb (climb (parentOf p (entriesOf p starts)) (length (entriesOf p starts)) (suc i)) 0)
+    usual-circling =
+        circling-is i l own e is parent kind parent-is kind-is before numbers again endless w unusual false unusual-is again endless never (λ _. (neither .0, neither .1, w .blank (neither .0) .0, w .blank (neither .0) .1)) false never (λ _. refl)
+
+    pub usual-sighted : (numbers′ : List ℕ) → length numbers′ ≡ length numbers → ((j : ℕ) → j < 8 * length numbers → bitAt numbers′ j ≡ (eqb j (e .number) || bitAt numbers j)) → Sighted p starts (i + 1) false numbers′ again endless
+    usual-sighted numbers′ n adds =
+        sighted-element i l own e is parent kind parent-is kind-is before numbers again endless w unusual false unusual-is again endless never (λ _. (neither .0, neither .1, w .blank (neither .0) .0, w .blank (neither .0) .1)) refl refl numbers′ n (λ _. adds)

@@ -1,18 +1,20 @@
 // Counting the faults of a pool that has been listed, in one pass: each record is looked at once, and its faults are put at once, so
 // that they come in order.
+use records::DeviceElement;
 ghost use mathlib.Core.Path.{_≡_};
-ghost use mathlib.Core.Bool.{true, false, _&&_, _||_};
-ghost use Prim.Native.Nat.{ℕ, _+_, _*_, _≤_, _<_, _^_};
+ghost use mathlib.Core.Bool.{true, false, not, _&&_, _||_};
+ghost use Prim.Native.Nat.{ℕ, suc, _+_, _*_, _≤_, _<_, _^_};
 ghost use lib.Dec.{eqb, ltb};
 ghost use lib.ListN.{length};
 ghost use Rattle.marks.specs.Bits.{bitAt};
 ghost use Rattle.faults.specs.Emission.{Emits};
 ghost use Rattle.pool.specs.Walk.{entriesOf, Divided};
-ghost use Rattle.naming.specs.Records.{kindAt};
-ghost use Rattle.naming.specs.Naming.{firstOf};
+ghost use Rattle.views.specs.Fields.{elementOf};
+ghost use Rattle.naming.specs.Records.{startAt, kindAt};
+ghost use Rattle.naming.specs.Naming.{firstOf, named, kindOf, parentOf, climb};
 ghost use Rattle.naming.specs.Lists.{Blank};
 ghost use Rattle.naming.specs.Chained.{Names};
-ghost use Rattle.rules.specs.Table.{breachesIn};
+ghost use Rattle.rules.specs.Table.{repeats, elementKey, breachesIn};
 ghost use Rattle.counting.specs.Passing.{Completes, Marked, Sighted, Added};
 
 // After some records: how many faults were counted, and whether rules 8 and 9 are now read off marks under the records.
@@ -91,8 +93,52 @@ fn is_endless(endless: &[u8], i: usize, full: bool) -> bool
     false
 }
 
-// Record i, a device element. All records are marked before rule 8 is judged where the number is over 4095, and else before rule 9: two
-// calls, so that what marks them keeps a frame of its own.
+// What rules 8 and 9 find in a device element, and whether they are now read off marks under the records.
+struct Settled {
+    again: bool,
+    endless: bool,
+    full: bool,
+}
+
+// Rules 8 and 9 of record i, a device element, of which fields, the number that its parent names and that one's kind are given. All
+// records are marked before rule 8 is judged where the number is over 4095, and else before rule 9: two calls, so that what marks them
+// keeps a frame of its own.
+fn settle_element(
+    p: &[u8],
+    starts: &[u16],
+    heads: &[u16],
+    next: &[u16],
+    i: usize,
+    e: DeviceElement,
+    parent: u16,
+    kind: u16,
+    full: bool,
+    numbers: &mut [u8],
+    again: &mut [u8],
+    endless: &mut [u8],
+) -> Settled
+    requires { ⌜ Names (now p) (now starts) (now heads) (now next) × (i + 1 < length (now starts)) × (kindAt (entriesOf (now p) (now starts)) i ≡ 2) × (e ≡ elementOf (now p) (startAt (entriesOf (now p) (now starts)) i)) × (parent ≡ named (entriesOf (now p) (now starts)) (e .parent)) × (kind ≡ kindOf (entriesOf (now p) (now starts)) parent) × Sighted (now p) (now starts) i full (now numbers) (now again) (now endless) ⌝ }
+    ensures { λ r. ⌜ (r .again ≡ repeats (elementKey (now (p .entry)) (entriesOf (now (p .entry)) (now (starts .entry)))) (suc (e .number)) i (length (entriesOf (now (p .entry)) (now (starts .entry))))) × (r .endless ≡ not (eqb (climb (parentOf (now (p .entry)) (entriesOf (now (p .entry)) (now (starts .entry)))) (length (entriesOf (now (p .entry)) (now (starts .entry)))) (suc i)) 0)) × Sighted (now (p .entry)) (now (starts .entry)) (i + 1) (r .full) (now (numbers .exit)) (now (again .exit)) (now (endless .exit)) ⌝ }
+{
+    let unusual = is_unusual(e.number, parent, kind, i);
+    if !(full | unusual) {
+        return Settled {
+            again: marks::note(numbers, e.number as usize),
+            endless: false,
+            full: false,
+        };
+    }
+    let over = settle(p, starts, heads, next, full, 4095 < e.number, again, endless);
+    let repeated = is_again(numbers, again, i, e.number, over);
+    let marked = settle(p, starts, heads, next, over, unusual, again, endless);
+    Settled {
+        again: repeated,
+        endless: is_endless(endless, i, marked),
+        full: marked,
+    }
+}
+
+// Record i, a device element.
 fn pass_element(
     p: &[u8],
     starts: &[u16],
@@ -103,7 +149,7 @@ fn pass_element(
     numbers: &mut [u8],
     again: &mut [u8],
     endless: &mut [u8],
-    seen: &mut [u16],
+    seen: &mut [u8],
     faults: &mut [u16],
 ) -> Passed
     requires { ⌜ Names (now p) (now starts) (now heads) (now next) × (i + 1 < length (now starts)) × (kindAt (entriesOf (now p) (now starts)) i ≡ 2) × Sighted (now p) (now starts) i (passed .full) (now numbers) (now again) (now endless) × (1024 ≤ length (now seen)) × (passed .n < 2 ^ 37) ⌝ }
@@ -112,20 +158,20 @@ fn pass_element(
     let e = views::device_element(p, starts[i]);
     let parent = naming::named_at(p, starts, heads, next, e.parent);
     let kind = naming::kind_at(p, starts, parent);
-    let unusual = is_unusual(e.number, parent, kind, i);
-    let over = settle(
+    let settled = settle_element(
         p,
         starts,
         heads,
         next,
+        i,
+        e,
+        parent,
+        kind,
         passed.full,
-        4095 < e.number,
+        numbers,
         again,
         endless,
     );
-    let repeated = is_again(numbers, again, i, e.number, over);
-    let full = settle(p, starts, heads, next, over, unusual, again, endless);
-    let circling = is_endless(endless, i, full);
     let n = breaches::put_element(
         p,
         starts,
@@ -135,13 +181,16 @@ fn pass_element(
         e,
         parent,
         kind,
-        repeated,
-        circling,
+        settled.again,
+        settled.endless,
         seen,
         faults,
         passed.n,
     );
-    Passed { n, full }
+    Passed {
+        n,
+        full: settled.full,
+    }
 }
 
 // Record i.
@@ -156,7 +205,7 @@ fn pass(
     numbers: &mut [u8],
     again: &mut [u8],
     endless: &mut [u8],
-    seen: &mut [u16],
+    seen: &mut [u8],
     faults: &mut [u16],
 ) -> Passed
     requires { ⌜ Names (now p) (now starts) (now heads) (now next) × (i + 1 < length (now starts)) × (device ≡ firstOf (kindAt (entriesOf (now p) (now starts))) 1 (length (entriesOf (now p) (now starts)))) × Sighted (now p) (now starts) i (passed .full) (now numbers) (now again) (now endless) × (1024 ≤ length (now seen)) × (passed .n < 2 ^ 37) ⌝ }
@@ -193,7 +242,7 @@ fn put_records(
     numbers: &mut [u8],
     again: &mut [u8],
     endless: &mut [u8],
-    seen: &mut [u16],
+    seen: &mut [u8],
     faults: &mut [u16],
     start: usize,
 ) -> usize
@@ -242,7 +291,7 @@ pub fn put_all(
     let device = fields::whole::first_device(p, starts);
     let start = fields::whole::put_pool(p, starts, device, faults);
     let mut numbers = [0u8; 512];
-    let mut seen = [0u16; 1024];
+    let mut seen = [0u8; 1024];
     put_records(
         p,
         starts,
@@ -258,16 +307,16 @@ pub fn put_all(
     )
 }
 
-// Lists for a pool of up to 1,024 records.
+// Lists for a pool of up to 1,023 records.
 fn count_short(p: &[u8], starts: &[u16], faults: &mut [u16]) -> usize
-    requires { ⌜ Divided (now p) (now starts) × (length (now starts) ≤ 1025) ⌝ }
+    requires { ⌜ Divided (now p) (now starts) × (length (now starts) ≤ 1024) ⌝ }
     ensures { λ r. ⌜ Emits (now (faults .entry)) 0 (breachesIn (now (p .entry)) (entriesOf (now (p .entry)) (now (starts .entry)))) (now (faults .exit)) r ⌝ }
 {
     let mut heads = [0u16; 512];
-    let mut next = [0u16; 1025];
+    let mut next = [0u16; 1024];
     naming::name_ids(p, starts, &mut heads, &mut next);
-    let mut again = [0u8; 129];
-    let mut endless = [0u8; 129];
+    let mut again = [0u8; 128];
+    let mut endless = [0u8; 128];
     put_all(p, starts, &heads, &next, &mut again, &mut endless, faults)
 }
 
@@ -276,7 +325,7 @@ fn count_long(p: &[u8], starts: &[u16], faults: &mut [u16]) -> usize
     requires { ⌜ Divided (now p) (now starts) ⌝ }
     ensures { λ r. ⌜ Emits (now (faults .entry)) 0 (breachesIn (now (p .entry)) (entriesOf (now (p .entry)) (now (starts .entry)))) (now (faults .exit)) r ⌝ }
 {
-    let mut heads = [0u16; 3500];
+    let mut heads = [0u16; 8192];
     let mut next = [0u16; 5462];
     naming::name_ids(p, starts, &mut heads, &mut next);
     let mut again = [0u8; 684];
@@ -290,7 +339,7 @@ pub fn count_faults(p: &[u8], starts: &[u16], faults: &mut [u16]) -> usize
     requires { ⌜ Divided (now p) (now starts) ⌝ }
     ensures { λ r. ⌜ Emits (now (faults .entry)) 0 (breachesIn (now (p .entry)) (entriesOf (now (p .entry)) (now (starts .entry)))) (now (faults .exit)) r ⌝ }
 {
-    if starts.len() <= 1025 {
+    if starts.len() <= 1024 {
         return count_short(p, starts, faults);
     }
     count_long(p, starts, faults)

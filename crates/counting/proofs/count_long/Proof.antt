@@ -3,7 +3,7 @@ use native.Mathlib.Omega.{arith}
 use Prim.Native.Nat.{ℕ}
 use lib.ListN.{length-replicate}
 use Rattle.pool.proofs.Starts.{starts-few}
-use Rattle.naming.proofs.Lists.{blank, long, brief}
+use Rattle.naming.proofs.Lists.{blank, long}
 use borrow.Author.Needs.{needs}
 use Rattle.counting.proofs.count_long.Statement.{statement}
 use Rattle.counting.proofs.count_long.Tie as tie
@@ -15,7 +15,7 @@ slice-aggregate-name-ids-2 : tie.Need-slice-aggregate-name-ids-2
 slice-aggregate-name-ids-2 c = search needs
 
 name-ids-requires : tie.Need-name-ids-requires
-name-ids-requires c κs = (c .before .before .before .before .before .pre, long 5462 _ (starts-few _ _ (c .before .before .before .before .before .pre)), long 3500 1 (omega arith), brief 3500 65536 (omega arith), blank 3500)
+name-ids-requires c κs = (c .before .before .before .before .before .pre, long 5462 _ (starts-few _ _ (c .before .before .before .before .before .pre)), long 8192 1 (omega arith), blank 8192)
 
 slice-aggregate-put-all : tie.Need-slice-aggregate-put-all
 slice-aggregate-put-all c = search needs

@@ -2,7 +2,7 @@
 use native.Mathlib.Omega.{arith}
 use Prim.Native.Nat.{ℕ}
 use lib.ListN.{length-replicate}
-use Rattle.naming.proofs.Lists.{blank, long, brief}
+use Rattle.naming.proofs.Lists.{blank, long}
 use borrow.Author.Needs.{needs}
 use Rattle.counting.proofs.count_short.Statement.{statement}
 use Rattle.counting.proofs.count_short.Tie as tie
@@ -14,7 +14,7 @@ slice-aggregate-name-ids-2 : tie.Need-slice-aggregate-name-ids-2
 slice-aggregate-name-ids-2 c = search needs
 
 name-ids-requires : tie.Need-name-ids-requires
-name-ids-requires c κs = (c .before .before .before .before .before .pre .0, long 1025 _ (c .before .before .before .before .before .pre .1), long 512 1 (omega arith), brief 512 65536 (omega arith), blank 512)
+name-ids-requires c κs = (c .before .before .before .before .before .pre .0, long 1024 _ (c .before .before .before .before .before .pre .1), long 512 1 (omega arith), blank 512)
 
 slice-aggregate-put-all : tie.Need-slice-aggregate-put-all
 slice-aggregate-put-all c = search needs
@@ -29,7 +29,7 @@ slice-aggregate-put-all-4 : tie.Need-slice-aggregate-put-all-4
 slice-aggregate-put-all-4 c = search needs
 
 put-all-requires : tie.Need-put-all-requires
-put-all-requires c κs = (c .before .before .before .before .before .before .before .name-ids .ensures, blank 129, blank 129, omega (arith, length-replicate {A = ℕ} 129 0, c .before .before .before .before .before .before .before .before .before .before .before .before .before .pre .1), omega (arith, length-replicate {A = ℕ} 129 0, c .before .before .before .before .before .before .before .before .before .before .before .before .before .pre .1))
+put-all-requires c κs = (c .before .before .before .before .before .before .before .name-ids .ensures, blank 128, blank 128, omega (arith, length-replicate {A = ℕ} 128 0, c .before .before .before .before .before .before .before .before .before .before .before .before .before .pre .1), omega (arith, length-replicate {A = ℕ} 128 0, c .before .before .before .before .before .before .before .before .before .before .before .before .before .pre .1))
 
 same-length : tie.Need-same-length
 same-length c = search needs
