@@ -10,10 +10,10 @@ const DATA: usize = 12;
 /// Bytes of a list's entry.
 const ENTRY: usize = 2;
 
-/// The library lists IDs by slots, which are the upper bits of a multiple of
-/// the ID: so many IDs have one slot. The inverse of the multiple leads back.
-const IDS_OF_A_SLOT: usize = 19;
-const INVERSE: usize = 30_599;
+/// The library lists IDs of long pools by their remainders by so many.
+const ID_HEADS: usize = 8_192;
+/// IDs that have one remainder.
+const IDS_OF_A_REMAINDER: usize = 0x1_0000 / ID_HEADS;
 /// It lists the DDIs of a long list by their remainders by so many.
 const DDI_HEADS: usize = 2_039;
 /// DDIs that have one remainder.
@@ -49,13 +49,13 @@ pub fn extremes(bytes: usize) -> Vec<Extreme> {
             "all DDIs again",
             walks(bytes, |index, last| index % last + 1),
         ),
-        ("IDs of equal slots", crowded_ids(records)),
+        ("IDs of equal remainders", crowded_ids(records)),
         ("the deepest ID", deepest(bytes, |index| index)),
         (
             "the deepest ID and DDI",
             deepest(bytes, |index| index * DDI_HEADS),
         ),
-        ("equal slots and remainders", crowded_lists(bytes)),
+        ("equal remainders of both", crowded_lists(bytes)),
         ("texts of 4-byte characters", long_texts(bytes)),
         ("most faults", most_faults(bytes)),
     ];
@@ -140,10 +140,10 @@ fn walks(bytes: usize, again: impl Fn(usize, usize) -> usize) -> Vec<Object> {
 }
 
 /// The ID of the process data with an index: as many of them as there can be
-/// have one slot, then the next so many. The first slots are left out, since
-/// no ID may be 0.
+/// have one remainder, then the next so many. The remainder 0 is left out,
+/// since no ID may be 0.
 fn crowded_id(index: usize) -> u16 {
-    ((IDS_OF_A_SLOT + index) * INVERSE % 0x1_0000) as u16
+    (1 + index / IDS_OF_A_REMAINDER + ID_HEADS * (index % IDS_OF_A_REMAINDER)) as u16
 }
 
 /// Process data with such IDs, and without a fault.
@@ -155,7 +155,7 @@ fn crowded_ids(count: usize) -> Vec<Object> {
 }
 
 /// A list that names process data of different DDIs, and then as often as it
-/// fits the first of them: its ID is looked for past all others of its slot.
+/// fits the first of them: its ID is looked for past all others of its remainder.
 fn deepest(bytes: usize, ddi: impl Fn(usize) -> usize) -> Vec<Object> {
     let room = bytes - DEVICE - ELEMENT;
     let count = DDIS_OF_A_REMAINDER.min(room / (2 * DATA));

@@ -201,7 +201,7 @@ fn judge_named(
     }
 }
 
-// By lists for a pool of up to 1,024 records, and for every pool: those of a check, so that the IDs are listed once.
+// By lists for a pool of up to 1,023 records, and for every pool: those of a check, so that the IDs are listed once.
 fn judge_short(
     p: &[u8],
     starts: &[u16],
@@ -210,14 +210,14 @@ fn judge_short(
     ddi: u16,
     value: i32,
 ) -> Judgement
-    requires { ⌜ Divided (now p) (now starts) × (length (now starts) ≤ 1025) ⌝ }
+    requires { ⌜ Divided (now p) (now starts) × (length (now starts) ≤ 1024) ⌝ }
     ensures { λ r. ⌜ JudgedAmong (now (p .entry)) (entriesOf (now (p .entry)) (now (starts .entry))) command element ddi value r ⌝ }
 {
     let mut heads = [0u16; 512];
-    let mut next = [0u16; 1025];
+    let mut next = [0u16; 1024];
     naming::name_ids(p, starts, &mut heads, &mut next);
-    let mut again = [0u8; 129];
-    let mut endless = [0u8; 129];
+    let mut again = [0u8; 128];
+    let mut endless = [0u8; 128];
     judge_named(
         p,
         starts,
@@ -243,7 +243,7 @@ fn judge_long(
     requires { ⌜ Divided (now p) (now starts) ⌝ }
     ensures { λ r. ⌜ JudgedAmong (now (p .entry)) (entriesOf (now (p .entry)) (now (starts .entry))) command element ddi value r ⌝ }
 {
-    let mut heads = [0u16; 3500];
+    let mut heads = [0u16; 8192];
     let mut next = [0u16; 5462];
     naming::name_ids(p, starts, &mut heads, &mut next);
     let mut again = [0u8; 684];
@@ -274,7 +274,7 @@ fn judge_among(
     requires { ⌜ Divided (now p) (now starts) ⌝ }
     ensures { λ r. ⌜ JudgedAmong (now (p .entry)) (entriesOf (now (p .entry)) (now (starts .entry))) command element ddi value r ⌝ }
 {
-    if starts.len() <= 1025 {
+    if starts.len() <= 1024 {
         return judge_short(p, starts, command, element, ddi, value);
     }
     judge_long(p, starts, command, element, ddi, value)

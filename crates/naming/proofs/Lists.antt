@@ -13,6 +13,3 @@ blank (suc n) (suc x) = blank n x
 
 pub long : (n m : ℕ) → m ≤ n → m ≤ length {A = ℕ} (replicate n 0)
 long n m h = omega (arith, length-replicate {A = ℕ} n 0)
-
-pub brief : (n m : ℕ) → n ≤ m → length {A = ℕ} (replicate n 0) ≤ m
-brief n m h = omega (arith, length-replicate {A = ℕ} n 0)

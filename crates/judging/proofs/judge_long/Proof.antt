@@ -3,7 +3,7 @@ use native.Mathlib.Omega.{arith}
 use mir.Syntax.{w32}
 use mir.ValLaws.{toZ-ofZ}
 use Rattle.pool.proofs.Starts.{starts-few}
-use Rattle.naming.proofs.Lists.{blank, long, brief}
+use Rattle.naming.proofs.Lists.{blank, long}
 use borrow.Author.Needs.{needs}
 use Rattle.judging.proofs.judge_long.Statement.{statement}
 use Rattle.judging.proofs.judge_long.Tie as tie
@@ -15,7 +15,7 @@ slice-aggregate-name-ids-2 : tie.Need-slice-aggregate-name-ids-2
 slice-aggregate-name-ids-2 c = search needs
 
 name-ids-requires : tie.Need-name-ids-requires
-name-ids-requires c κs = (c .before .before .before .before .pre, long 5462 _ (starts-few (c .before .before .before .before .args .p .now) (c .before .before .before .before .args .starts .now) (c .before .before .before .before .pre)), long 3500 1 (omega arith), brief 3500 65536 (omega arith), blank 3500)
+name-ids-requires c κs = (c .before .before .before .before .pre, long 5462 _ (starts-few (c .before .before .before .before .args .p .now) (c .before .before .before .before .args .starts .now) (c .before .before .before .before .pre)), long 8192 1 (omega arith), blank 8192)
 
 slice-aggregate-judge-named : tie.Need-slice-aggregate-judge-named
 slice-aggregate-judge-named c = search needs

@@ -2,7 +2,7 @@
 use native.Mathlib.Omega.{arith}
 use mir.Syntax.{w32}
 use mir.ValLaws.{toZ-ofZ}
-use Rattle.naming.proofs.Lists.{blank, long, brief}
+use Rattle.naming.proofs.Lists.{blank, long}
 use borrow.Author.Needs.{needs}
 use Rattle.judging.proofs.judge_short.Statement.{statement}
 use Rattle.judging.proofs.judge_short.Tie as tie
@@ -14,7 +14,7 @@ slice-aggregate-name-ids-2 : tie.Need-slice-aggregate-name-ids-2
 slice-aggregate-name-ids-2 c = search needs
 
 name-ids-requires : tie.Need-name-ids-requires
-name-ids-requires c κs = (c .before .before .before .before .pre .0, long 1025 _ (c .before .before .before .before .pre .1), long 512 1 (omega arith), brief 512 65536 (omega arith), blank 512)
+name-ids-requires c κs = (c .before .before .before .before .pre .0, long 1024 _ (c .before .before .before .before .pre .1), long 512 1 (omega arith), blank 512)
 
 slice-aggregate-judge-named : tie.Need-slice-aggregate-judge-named
 slice-aggregate-judge-named c = search needs
@@ -31,7 +31,7 @@ slice-aggregate-judge-named-4 c = search needs
 judge-named-requires : tie.Need-judge-named-requires
 judge-named-requires c κs =
     let few = c .before .before .before .before .before .before .before .before .before .before .before .pre .1 in
-    (c .before .before .before .before .before .before .name-ids .ensures, blank 129, blank 129, omega (arith, few, long 129 129 (omega arith)), omega (arith, few, long 129 129 (omega arith)))
+    (c .before .before .before .before .before .before .name-ids .ensures, blank 128, blank 128, omega (arith, few, long 128 128 (omega arith)), omega (arith, few, long 128 128 (omega arith)))
 
 returns : tie.Need-returns
 returns c = rw (toZ-ofZ w32 (c .before .before .before .before .before .before .before .before .before .before .before .before .before .before .args .value) (c .before .before .before .before .before .before .before .before .before .before .before .before .before .before .fits .value)) at (c .before .before .judge-named .ensures)
