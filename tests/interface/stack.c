@@ -15,7 +15,7 @@
 
 /* No call takes more, whatever it is lent. Pools of up to SHORT_POOL bytes and lists of up to SHORT_LIST entries take shorter lists
  * inside, and what that comes to is printed. */
-enum { BOUND = 64 << 10, SHORT_POOL = 12 << 10, SHORT_LIST = 64 };
+enum { BOUND = 64 << 10, SHORT_POOL = 12276, SHORT_LIST = 64 };
 enum { STACK = 4 << 20, PAGE = 1 << 16, UNUSED = 0xA5 };
 enum { DEVICE = 31, ELEMENT = 13, DATA = 12, LIST_COUNT = 11, LIST = 13, ENTRY = 2 };
 

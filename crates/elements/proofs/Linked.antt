@@ -1,9 +1,10 @@
 -- Rule 12's walk along links under the records' numbers. What the lists have is said of the entries: the last entry of a
--- remainder that brings a new tag, and under the record of such an entry the last one before it. Assumes nothing.
+-- remainder that brings a new tag, and under the record of such an entry the last one before it. What no entry names has no link.
+-- Assumes nothing.
 use mathlib.Core.Path.{_≡_, refl, sym, ap, _∙_}
 use mathlib.Core.Bool.{Bool, true, false, true≢false, cond, _&&_}
 use mathlib.Core.List.{List}
-use Prim.Native.Nat.{ℕ, zero, suc, _≤_, _<_, _%_}
+use Prim.Native.Nat.{ℕ, zero, suc, _+_, _-_, _≤_, _<_, _%_}
 use native.Mathlib.Nat.{not-suc-le-zero, mod-lt}
 use native.Mathlib.Decide.{ℕ-discrete, decLt}
 use native.Mathlib.Omega.{arith}
@@ -121,12 +122,14 @@ unfoldable pub place : (ℕ → ℕ) → ℕ → ℕ → ℕ
 place entry n zero = 0
 place entry n (suc k) = firstOf entry (suc k) n
 
--- the lists of the first m entries, by the remainders of their tags by h
+-- the lists of the first m entries, by the remainders of their tags by h. The link of a fresh entry's record is 1 more than the record that
+-- it leads to, and each record whose link is not 0 is named by an entry
 pub record Linked (entry mark : ℕ → ℕ) (h m : ℕ) (tops links : List ℕ) : Type 0 where
   pub some : 0 < h
   pub wide : length tops ≡ h
   pub top : (b : ℕ) → b < h → getD tops b 0 ≡ at entry (newest (tags entry mark) h b m)
-  pub below : (j : ℕ) → j < m → fresh (tags entry mark) j ≡ true → getD links (entry j) 0 ≡ at entry (newest (tags entry mark) h (tags entry mark j % h) j)
+  pub below : (j : ℕ) → j < m → fresh (tags entry mark) j ≡ true → getD links (entry j) 0 ≡ 1 + at entry (newest (tags entry mark) h (tags entry mark j % h) j)
+  pub met : (r : ℕ) → (getD links r 0 ≡ 0 → ⊥) → (j : ℕ) × (j < m) × (entry j ≡ r)
 
 -- a walk for a tag stands at a record: 0, or that of a fresh entry of the tag's remainder, and no entry behind that one brings the tag
 pub record Walks (entry mark : ℕ → ℕ) (h m x k : ℕ) : Type 0 where
@@ -196,17 +199,24 @@ module _ (entry mark : ℕ → ℕ) (nothing : mark 0 ≡ 0) (m : ℕ) where
     walk-begins = walks-from h x _ m (omega arith) (c .top (x % h) (mod-lt x (c .some))) (λ i b r f q. omega arith)
 
     module _ (k : ℕ) (s : k ≡ 0 → ⊥) (w : Walks entry mark h m x k) where
-      link-is : (i : ℕ) → w .stands ≡ suc i → k ≡ entry i → getD links k 0 ≡ at entry (newest (tags entry mark) h (x % h) i)
-      link-is i e q =
+      link-at : (i : ℕ) → w .stands ≡ suc i → k ≡ entry i → getD links k 0 ≡ 1 + at entry (newest (tags entry mark) h (x % h) i)
+      link-at i e q =
           let o = w .on i e in
           ap (λ (r : ℕ). getD links r 0) q
           ∙ c .below i (omega (arith, w .inside, e)) (o .0)
-          ∙ ap (λ (b : ℕ). at entry (newest (tags entry mark) h b i)) (o .1)
+          ∙ ap (λ (b : ℕ). 1 + at entry (newest (tags entry mark) h b i)) (o .1)
 
-      pub walk-goes : (mark k ≡ x → ⊥) → Walks entry mark h m x (getD links k 0)
+      link-is : (i : ℕ) → w .stands ≡ suc i → k ≡ entry i → getD links k 0 - 1 ≡ at entry (newest (tags entry mark) h (x % h) i)
+      link-is i e q = omega (arith, link-at i e q)
+
+      -- the record there has a link
+      pub walk-linked : 1 ≤ getD links k 0
+      walk-linked = let d = standing h x k s w in omega (arith, link-at (d .0) (d .1) (d .2))
+
+      pub walk-goes : (mark k ≡ x → ⊥) → Walks entry mark h m x (getD links k 0 - 1)
       walk-goes other =
           let d = standing h x k s w in
-          walks-from h x (getD links k 0) (d .0) (omega (arith, w .inside, d .1)) (link-is (d .0) (d .1) (d .2))
+          walks-from h x (getD links k 0 - 1) (d .0) (omega (arith, w .inside, d .1)) (link-is (d .0) (d .1) (d .2))
           (λ i b r f q. later (d .0) (d .1) (d .2) i b r f q (ℕ-discrete i (d .0)))
         where
           later : (a : ℕ) → w .stands ≡ suc a → k ≡ entry a → (i : ℕ) → i < m → a ≤ i → fresh (tags entry mark) i ≡ true → tags entry mark i ≡ x → Dec (i ≡ a) → ⊥
@@ -214,55 +224,80 @@ module _ (entry mark : ℕ → ℕ) (nothing : mark 0 ≡ 0) (m : ℕ) where
           later a e g i b r f q (no z) = w .none i b (omega arith) f q
 
       -- the place of the entry falls
-      pub walk-falls : (n : ℕ) → m ≤ n → place entry n (getD links k 0) < place entry n k
+      pub walk-falls : (n : ℕ) → m ≤ n → place entry n (getD links k 0 - 1) < place entry n k
       unfolding place
       walk-falls n l =
           let d = standing h x k s w in
           go (d .0) (d .1) (d .2) (newest (tags entry mark) h (x % h) (d .0)) refl
         where
-          go : (a : ℕ) → w .stands ≡ suc a → k ≡ entry a → (r : ℕ) → newest (tags entry mark) h (x % h) a ≡ r → place entry n (getD links k 0) < place entry n k
+          go : (a : ℕ) → w .stands ≡ suc a → k ≡ entry a → (r : ℕ) → newest (tags entry mark) h (x % h) a ≡ r → place entry n (getD links k 0 - 1) < place entry n k
           go a e g zero q =
               rw (link-is a e g ∙ ap (at entry) q, place-is n a k (omega (arith, w .inside, e)) (w .on a e .0) g) (omega arith)
           go a e g (suc i) q =
               let t = new-some (tags entry mark) h (x % h) a i q in
-              rw (place-is n i (getD links k 0) (omega (arith, t .0, w .inside, e)) (t .1) (link-is a e g ∙ ap (at entry) q), place-is n a k (omega (arith, w .inside, e)) (w .on a e .0) g) (omega (arith, t .0))
+              rw (place-is n i (getD links k 0 - 1) (omega (arith, t .0, w .inside, e)) (t .1) (link-is a e g ∙ ap (at entry) q), place-is n a k (omega (arith, w .inside, e)) (w .on a e .0) g) (omega (arith, t .0))
 
 -- ---- one entry more
-pub linked-start : (entry mark : ℕ → ℕ) (h : ℕ) (tops links : List ℕ) → 0 < h → length tops ≡ h → Blank tops → Linked entry mark h 0 tops links
+pub linked-start : (entry mark : ℕ → ℕ) (h : ℕ) (tops links : List ℕ) → 0 < h → length tops ≡ h → Blank tops → Blank links → Linked entry mark h 0 tops links
 unfolding newest
-linked-start entry mark h tops links some wide blank =
-    record { some = some; wide = wide; top = λ i l. blank i; below = λ j l f. absurd (not-suc-le-zero l) }
+linked-start entry mark h tops links some wide blank new =
+    record { some = some; wide = wide; top = λ i l. blank i; below = λ j l f. absurd (not-suc-le-zero l); met = λ r q. absurd (q (new r)) }
 
 module _ (entry mark : ℕ → ℕ) (h m : ℕ) (tops links : List ℕ) (c : Linked entry mark h m tops links) where
-  -- that is not fresh
-  linked-stays : fresh (tags entry mark) m ≡ false → Linked entry mark h (suc m) tops links
-  linked-stays s =
+  -- that is not fresh, with the same links under the records of those that are
+  linked-stays : (links′ : List ℕ) → fresh (tags entry mark) m ≡ false
+      → ((j : ℕ) → j < m → fresh (tags entry mark) j ≡ true → getD links′ (entry j) 0 ≡ getD links (entry j) 0)
+      → ((r : ℕ) → (getD links′ r 0 ≡ 0 → ⊥) → (j : ℕ) × (j < suc m) × (entry j ≡ r)) → Linked entry mark h (suc m) tops links′
+  linked-stays links′ s same met =
       record {
         some = c .some;
         wide = c .wide;
         top = λ b l. c .top b l ∙ ap (at entry) (sym (new-shut (tags entry mark) h b m s));
         below = λ j l f. go j l f (decLt j m);
+        met = met;
       }
     where
-      go : (j : ℕ) → j < suc m → fresh (tags entry mark) j ≡ true → Dec (j < m) → getD links (entry j) 0 ≡ at entry (newest (tags entry mark) h (tags entry mark j % h) j)
-      go j l f (yes d) = c .below j d f
+      go : (j : ℕ) → j < suc m → fresh (tags entry mark) j ≡ true → Dec (j < m) → getD links′ (entry j) 0 ≡ 1 + at entry (newest (tags entry mark) h (tags entry mark j % h) j)
+      go j l f (yes d) = same j d f ∙ c .below j d f
       go j l f (no d) = let same : j ≡ m = omega arith in untrue (sym s ∙ ap (fresh (tags entry mark)) (sym same) ∙ f)
 
-  pub linked-plain : tags entry mark m ≡ 0 → Linked entry mark h (suc m) tops links
-  linked-plain e = linked-stays (fresh-none (tags entry mark) m e)
+  -- with one entry more, still each record whose link is not 0 is named by an entry; and also when the new entry's record is given a link
+  met-more : (r : ℕ) → (getD links r 0 ≡ 0 → ⊥) → (j : ℕ) × (j < suc m) × (entry j ≡ r)
+  met-more r q = let d = c .met r q in (d .0, omega (arith, d .1), d .2)
 
-  pub linked-again : (x j : ℕ) → j < m → tags entry mark j ≡ x → tags entry mark m ≡ x → Linked entry mark h (suc m) tops links
-  linked-again x j l e q = linked-stays (fresh-again (tags entry mark) m x j l e q)
+  met-set : (v r : ℕ) → (getD (set links (entry m) v) r 0 ≡ 0 → ⊥) → (j : ℕ) × (j < suc m) × (entry j ≡ r)
+  met-set v r q = go (ℕ-discrete r (entry m))
+    where
+      go : Dec (r ≡ entry m) → (j : ℕ) × (j < suc m) × (entry j ≡ r)
+      go (yes e) = (m, omega arith, sym e)
+      go (no e) = met-more r (λ (z : getD links r 0 ≡ 0). q (getD-set-other links (entry m) r v 0 e ∙ z))
+
+  pub linked-plain : tags entry mark m ≡ 0 → Linked entry mark h (suc m) tops links
+  linked-plain e = linked-stays links (fresh-none (tags entry mark) m e) (λ j l f. refl) met-more
+
+  module _ (x j : ℕ) (l : j < m) (e : tags entry mark j ≡ x) (q : tags entry mark m ≡ x) where
+    pub linked-again : Linked entry mark h (suc m) tops links
+    linked-again = linked-stays links (fresh-again (tags entry mark) m x j l e q) (λ i b f. refl) met-more
+
+    -- and whose record had no link
+    pub linked-marked : (v : ℕ) → getD links (entry m) 0 ≡ 0 → Linked entry mark h (suc m) tops (set links (entry m) v)
+    linked-marked v unmet = linked-stays (set links (entry m) v) (fresh-again (tags entry mark) m x j l e q) stay (met-set v)
+      where
+        stay : (i : ℕ) → i < m → fresh (tags entry mark) i ≡ true → getD (set links (entry m) v) (entry i) 0 ≡ getD links (entry i) 0
+        stay i b f =
+            getD-set-other links (entry m) (entry i) v 0
+            (λ (z : entry i ≡ entry m). omega (arith, c .below i b f, ap (λ (r : ℕ). getD links r 0) z, unmet))
 
   -- that is fresh
   pub linked-new : (x : ℕ) → tags entry mark m ≡ x → (x ≡ 0 → ⊥) → Without (tags entry mark) x m → entry m < length links
-      → Linked entry mark h (suc m) (set tops (x % h) (entry m)) (set links (entry m) (getD tops (x % h) 0))
+      → Linked entry mark h (suc m) (set tops (x % h) (entry m)) (set links (entry m) (1 + getD tops (x % h) 0))
   linked-new x e t none room =
       record {
         some = c .some;
         wide = length-set tops (x % h) (entry m) ∙ c .wide;
         top = λ b l. tops-are b l (ℕ-discrete b (x % h));
         below = λ j l f. links-are j l f (decLt j m);
+        met = met-set (1 + getD tops (x % h) 0);
       }
     where
       small : x % h < h
@@ -284,14 +319,14 @@ module _ (entry mark : ℕ → ℕ) (h m : ℕ) (tops links : List ℕ) (c : Lin
           ∙ ap (at entry) (sym (new-other (tags entry mark) h b m (λ (z : tags entry mark m % h ≡ b). q (sym z ∙ ap (λ (y : ℕ). y % h) e))))
 
       links-are : (j : ℕ) → j < suc m → fresh (tags entry mark) j ≡ true → Dec (j < m)
-          → getD (set links (entry m) (getD tops (x % h) 0)) (entry j) 0 ≡ at entry (newest (tags entry mark) h (tags entry mark j % h) j)
+          → getD (set links (entry m) (1 + getD tops (x % h) 0)) (entry j) 0 ≡ 1 + at entry (newest (tags entry mark) h (tags entry mark j % h) j)
       links-are j l f (yes d) =
-          getD-set-other links (entry m) (entry j) (getD tops (x % h) 0) 0 (λ (q : entry j ≡ entry m). none j d (ap mark q ∙ e))
+          getD-set-other links (entry m) (entry j) (1 + getD tops (x % h) 0) 0 (λ (q : entry j ≡ entry m). none j d (ap mark q ∙ e))
           ∙ c .below j d f
       links-are j l f (no d) =
           let same : j ≡ m = omega arith in
-          ap (λ (i : ℕ). getD (set links (entry m) (getD tops (x % h) 0)) (entry i) 0) same
-          ∙ getD-set-same links (entry m) (getD tops (x % h) 0) 0 room
-          ∙ c .top (x % h) small
-          ∙ ap (λ (y : ℕ). at entry (newest (tags entry mark) h (y % h) m)) (sym e)
-          ∙ ap (λ (i : ℕ). at entry (newest (tags entry mark) h (tags entry mark i % h) i)) (sym same)
+          ap (λ (i : ℕ). getD (set links (entry m) (1 + getD tops (x % h) 0)) (entry i) 0) same
+          ∙ getD-set-same links (entry m) (1 + getD tops (x % h) 0) 0 room
+          ∙ ap (λ (y : ℕ). 1 + y) (c .top (x % h) small)
+          ∙ ap (λ (y : ℕ). 1 + at entry (newest (tags entry mark) h (y % h) m)) (sym e)
+          ∙ ap (λ (i : ℕ). 1 + at entry (newest (tags entry mark) h (tags entry mark i % h) i)) (sym same)

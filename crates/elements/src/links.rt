@@ -1,5 +1,5 @@
 // Rule 12 of a long list: each entry against the earlier ones whose DDI has the same remainder, one at a time. The inner walk is left at
-// the first match.
+// the first match. An entry that names the same record as an earlier one needs no walk: the record has a link already.
 ghost use mathlib.Core.Path.{_≡_};
 ghost use mathlib.Core.List.{[], _∷_};
 ghost use Prim.Native.Nat.{ℕ, _+_, _≤_, _<_, _^_};
@@ -18,8 +18,12 @@ pub struct Walked {
     pub tagged: usize,
 }
 
-// The walk, by lists that are lent. `tops` has under each remainder the record that was entered last, and `links` under the number of a
-// record the one that was entered before it: one that an earlier entry names, whatever its number. A DDI is entered once.
+// The walk, by lists that are lent. `tops` has under each remainder the record that was entered last, and `links` has under the number of
+// a record with a DDI
+//     0      as long as no entry has named it,
+//     1 + k  if it was entered: k is the record that was entered before it, whatever its number, or 0 for the first of a remainder,
+//     65535  if it was named and not entered, since another record with its DDI had been entered before.
+// So a DDI is entered once, and a record is looked for along the links once.
 fn walk_links(
     p: &[u8],
     starts: &[u16],
@@ -33,7 +37,7 @@ fn walk_links(
     faults: &mut [u16],
     count: usize,
 ) -> Walked
-    requires { ⌜ Names (now p) (now starts) (now heads) (now next) × (length (now tops) ≡ 2039) × Blank (now tops) × (length (now starts) ≤ length (now links)) × (size ≤ 32768) × (count < 2 ^ 41) ⌝ }
+    requires { ⌜ Names (now p) (now starts) (now heads) (now next) × (length (now tops) ≡ 2039) × Blank (now tops) × (length (now starts) ≤ length (now links)) × Blank (now links) × (size ≤ 32768) × (count < 2 ^ 41) ⌝ }
     ensures { λ r. ⌜ Puts number (many 12 2 size (doubled (entryTag (now (p .entry)) (entriesOf (now (p .entry)) (now (starts .entry))) at)) ∷ []) (now (faults .entry)) count (now (faults .exit)) (r .n) × (r .n ≤ count + size) × (r .tagged ≡ size → (m : ℕ) → m < size → entryTag (now (p .entry)) (entriesOf (now (p .entry)) (now (starts .entry))) at m ≡ 0 → ⊥) ⌝ }
 {
     let from = views::entries_from(p, at);
@@ -48,16 +52,21 @@ fn walk_links(
             continue 'entries;
         }
         tagged += 1;
+        if links[named as usize] != 0 {
+            n = faults::put_if(true, faults, n, number, 12, (1 + m) as u16);
+            continue 'entries;
+        }
         let b = tag % 2039;
         let mut k = tops[b];
         while k != 0 {
             if super::ddi_at(p, starts, k) as usize + 1 == tag {
+                links[named as usize] = 65535;
                 n = faults::put_if(true, faults, n, number, 12, (1 + m) as u16);
                 continue 'entries;
             }
-            k = links[k as usize];
+            k = links[k as usize] - 1;
         }
-        links[named as usize] = tops[b];
+        links[named as usize] = 1 + tops[b];
         tops[b] = named;
     }
     Walked { n, tagged }
