@@ -140,10 +140,10 @@ fn walks(bytes: usize, again: impl Fn(usize, usize) -> usize) -> Vec<Object> {
 }
 
 /// The ID of the process data with an index: as many of them as there can be
-/// have one remainder, then the next so many. The remainder 0 is left out,
-/// since no ID may be 0.
+/// have one remainder, then the next so many. The remainders 0 and 1 are left
+/// out: no ID may be 0, and the element has 1.
 fn crowded_id(index: usize) -> u16 {
-    (1 + index / IDS_OF_A_REMAINDER + ID_HEADS * (index % IDS_OF_A_REMAINDER)) as u16
+    (2 + index / IDS_OF_A_REMAINDER + ID_HEADS * (index % IDS_OF_A_REMAINDER)) as u16
 }
 
 /// Process data with such IDs, and without a fault.

@@ -128,7 +128,16 @@ fn settle_element(
             full: false,
         };
     }
-    let over = settle(p, starts, heads, next, full, 4095 < e.number, again, endless);
+    let over = settle(
+        p,
+        starts,
+        heads,
+        next,
+        full,
+        4095 < e.number,
+        again,
+        endless,
+    );
     let repeated = is_again(numbers, again, i, e.number, over);
     let marked = settle(p, starts, heads, next, over, unusual, again, endless);
     Settled {

@@ -24,12 +24,6 @@ pub fn is_parent(kind: u16) -> bool
     (kind == 1) | (kind == 2)
 }
 
-fn is_data(kind: u16) -> bool
-    ensures { λ r. ⌜ r ≡ isData kind ⌝ }
-{
-    (kind == 3) | (kind == 4)
-}
-
 // The DDI of process data or a property, by the record's number.
 fn ddi_at(p: &[u8], starts: &[u16], number: u16) -> u16
     requires { ⌜ Divided (now p) (now starts) × (number ≡ 0 → ⊥) × (number < length (now starts)) ⌝ }
@@ -43,7 +37,7 @@ pub fn tag_at(p: &[u8], starts: &[u16], number: u16) -> usize
     requires { ⌜ Divided (now p) (now starts) × (number < length (now starts)) ⌝ }
     ensures { λ r. ⌜ (r ≡ tagOf (now (p .entry)) (entriesOf (now (p .entry)) (now (starts .entry))) number) × (r ≤ 65536) ⌝ }
 {
-    if is_data(naming::kind_at(p, starts, number)) {
+    if naming::is_data_at(p, starts, number) {
         return 1 + ddi_at(p, starts, number) as usize;
     }
     0
@@ -60,7 +54,7 @@ fn is_wrong_entry(p: &[u8], starts: &[u16], named: u16) -> bool
     requires { ⌜ Divided (now p) (now starts) × (named < length (now starts)) ⌝ }
     ensures { λ r. ⌜ r ≡ wrongKind (isData (kindOf (entriesOf (now (p .entry)) (now (starts .entry))) named)) named ⌝ }
 {
-    (named != 0) & !is_data(naming::kind_at(p, starts, named))
+    (named != 0) & !naming::is_data_at(p, starts, named)
 }
 
 // What a walk over the entries has found: the count of faults, whether an entry names a record of a wrong kind, and how many name
@@ -94,7 +88,7 @@ fn put_missing(
     while m < size {
         let named = naming::named_at(p, starts, heads, next, wire::read_u16(p, from + 2 * m));
         n = faults::put_if(named == 0, faults, n, number, 6, (2 + m) as u16);
-        if is_data(naming::kind_at(p, starts, named)) {
+        if naming::is_data_at(p, starts, named) {
             tagged += 1;
         } else {
             wrong = wrong | (named != 0);

@@ -8,7 +8,7 @@ ghost use lib.Dec.{eqb};
 ghost use lib.ListN.{length};
 ghost use Rattle.pool.specs.Walk.{entriesOf, Divided};
 ghost use Rattle.naming.specs.Records.{idAt, kindAt};
-ghost use Rattle.naming.specs.Naming.{firstOf, named, kindOf, parentOf};
+ghost use Rattle.naming.specs.Naming.{firstOf, named, isData, kindOf, parentOf};
 ghost use Rattle.naming.specs.Lists.{idIn, Blank};
 ghost use Rattle.naming.specs.Chained.{slot, Chained, Names};
 
@@ -111,6 +111,17 @@ pub fn kind_at(p: &[u8], starts: &[u16], number: u16) -> u16
         return 0;
     }
     records::view::kind_number(p, starts[number as usize - 1])
+}
+
+// Whether the record with a number from 1 is process data or a property.
+pub fn is_data_at(p: &[u8], starts: &[u16], number: u16) -> bool
+    requires { ⌜ Divided (now p) (now starts) × (number < length (now starts)) ⌝ }
+    ensures { λ r. ⌜ r ≡ isData (kindOf (entriesOf (now (p .entry)) (now (starts .entry))) number) ⌝ }
+{
+    if number == 0 {
+        return false;
+    }
+    records::view::is_data(p, starts[number as usize - 1])
 }
 
 // The number of the device element that the parent of the record with a number names, 0 where a chain ends.

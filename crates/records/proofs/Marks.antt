@@ -1,6 +1,6 @@
 -- No mark stands where fewer than three bytes are left. Assumes nothing.
 use mathlib.Core.Path.{_≡_, refl, sym, ap, subst, _∙_}
-use mathlib.Core.Bool.{Bool, true, false, _&&_}
+use mathlib.Core.Bool.{Bool, true, false, _&&_, _||_}
 use mathlib.Core.List.{List, [], _∷_}
 use Prim.Native.Nat.{ℕ, _+_, _*_, _/_, _%_, _≤_, _<_}
 use native.Mathlib.Decide.{ℕ-discrete, decLt}
@@ -115,23 +115,32 @@ module _ (a b c : ℕ) (h : Marked a b c) where
         let t : c ≡ 67 = device-third c (subst (λ (x : ℕ). Marked 68 x c) second (subst (λ (x : ℕ). Marked x b c) first h)) d in
         rw (first, second, t)
 
+  of-second : (x : ℕ) → b ≡ x → Marked 68 x c
+  of-second x q = subst (λ (y : ℕ). Marked 68 y c) q (subst (λ (y : ℕ). Marked y b c) first h)
+
+  -- what holds of the five marks holds of this one
+  pub by-mark : (X : ℕ → ℕ → ℕ → Type 0) → X 68 80 68 → X 68 80 84 → X 68 69 84 → X 68 86 80 → X 68 86 67 → X a b c
+  by-mark X dpd dpt det dvp dvc = by-second (ℕ-discrete b 80) (ℕ-discrete b 69)
+    where
+      data-of : b ≡ 80 → Dec (c ≡ 68) → X a b c
+      data-of p (yes e) = rw (first, p, e) dpd
+      data-of p (no d) = rw (first, p, data-third c (of-second 80 p) d) dpt
+
+      device-of : b ≡ 86 → Dec (c ≡ 80) → X a b c
+      device-of p (yes e) = rw (first, p, e) dvp
+      device-of p (no d) = rw (first, p, device-third c (of-second 86 p) d) dvc
+
+      by-second : Dec (b ≡ 80) → Dec (b ≡ 69) → X a b c
+      by-second (yes p) e = data-of p (ℕ-discrete c 68)
+      by-second (no n) (yes p) = rw (first, p, element-third c (of-second 69 p)) det
+      by-second (no n) (no m) = device-of (second-letter b c (subst (λ (y : ℕ). Marked y b c) first h) n m) (ℕ-discrete c 80)
+
   -- the two letters as a number, times 6663, have the kind in bits 15 to 17
   pub kind-product : (b + 256 * c) * 6663 / 32768 % 8 ≡ markNumber (markOf (a ∷ b ∷ c ∷ []))
   unfolding markOf mark
-  kind-product = by-second (ℕ-discrete b 80) (ℕ-discrete b 69)
-    where
-      to : (x : ℕ) → b ≡ x → Marked 68 x c
-      to x q = subst (λ (y : ℕ). Marked 68 y c) q (subst (λ (y : ℕ). Marked y b c) first h)
+  kind-product = by-mark (λ x y z. (y + 256 * z) * 6663 / 32768 % 8 ≡ markNumber (markOf (x ∷ y ∷ z ∷ []))) refl refl refl refl refl
 
-      data-of : b ≡ 80 → Dec (c ≡ 68) → (b + 256 * c) * 6663 / 32768 % 8 ≡ markNumber (markOf (a ∷ b ∷ c ∷ []))
-      data-of p (yes e) = rw (first, p, e)
-      data-of p (no d) = rw (first, p, data-third c (to 80 p) d)
-
-      device-of : b ≡ 86 → Dec (c ≡ 80) → (b + 256 * c) * 6663 / 32768 % 8 ≡ markNumber (markOf (a ∷ b ∷ c ∷ []))
-      device-of p (yes e) = rw (first, p, e)
-      device-of p (no d) = rw (first, p, device-third c (to 86 p) d)
-
-      by-second : Dec (b ≡ 80) → Dec (b ≡ 69) → (b + 256 * c) * 6663 / 32768 % 8 ≡ markNumber (markOf (a ∷ b ∷ c ∷ []))
-      by-second (yes p) e = data-of p (ℕ-discrete c 68)
-      by-second (no n) (yes p) = rw (first, p, element-third c (to 69 p))
-      by-second (no n) (no m) = device-of (second-letter b c (subst (λ (y : ℕ). Marked y b c) first h) n m) (ℕ-discrete c 80)
+  -- a P is the second letter of process data and properties alone
+  pub data-letter : eqb b 80 ≡ (eqb (markNumber (markOf (a ∷ b ∷ c ∷ []))) 3 || eqb (markNumber (markOf (a ∷ b ∷ c ∷ []))) 4)
+  unfolding markOf mark
+  data-letter = by-mark (λ x y z. eqb y 80 ≡ (eqb (markNumber (markOf (x ∷ y ∷ z ∷ []))) 3 || eqb (markNumber (markOf (x ∷ y ∷ z ∷ []))) 4)) refl refl refl refl refl

@@ -2,6 +2,8 @@
 // pool's end read as 0.
 use super::Mark;
 ghost use mathlib.Core.Path.{_≡_};
+ghost use mathlib.Core.Bool.{_||_};
+ghost use lib.Dec.{eqb};
 ghost use Rattle.records.specs.Layout.{markNumber, markOf, three};
 ghost use Rattle.records.specs.Places.{idOf};
 
@@ -59,6 +61,14 @@ pub fn kind_number(p: &[u8], at: u16) -> u16
     let start = at as usize;
     let letters = p[start + 1] as usize + 256 * p[start + 2] as usize;
     (letters * 6663 / 32768 % 8) as u16
+}
+
+// Whether process data or a property stands where a mark stands: a P is the second letter of their marks and of no other.
+pub fn is_data(p: &[u8], at: u16) -> bool
+    requires { ⌜ (markNumber (markOf (three (now p) at)) ≡ 0 → ⊥) ⌝ }
+    ensures { λ r. ⌜ r ≡ (eqb (markNumber (markOf (three (now (p .entry)) at))) 3 || eqb (markNumber (markOf (three (now (p .entry)) at))) 4) ⌝ }
+{
+    p[at as usize + 1] == b'P'
 }
 
 // The object ID, in a record of any kind.

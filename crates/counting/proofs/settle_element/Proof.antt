@@ -64,10 +64,11 @@ returns-2 c =
     let a = c .before .before .before .before .before .before .before .before .before .before .before .before .before .before .before .before .before .before .before .before .before .before .before .before .before .before .before .before .before .before .before .args in
     let p = a .p .now in
     let starts = a .starts .now in
-    let l : suc (a .i) < length starts = omega (arith, c .before .before .before .before .before .before .before .before .before .before .before .before .before .before .before .before .before .before .before .before .before .before .before .before .before .before .before .before .before .before .before .pre .1) in
-    (repeated-is p starts (a .i) l (c .before .before .before .before .before .before .before .before .before .before .before .before .before .before .before .before .before .before .before .before .before .before .before .before .before .before .before .before .before .before .before .pre .2) (a .e) (c .before .before .before .before .before .before .before .before .before .before .before .before .before .before .before .before .before .before .before .before .before .before .before .before .before .before .before .before .before .before .before .pre .3) (a .full) (a .numbers .now) (a .again .now) (a .endless .now) (c .before .before .before .before .before .before .before .before .before .before .before .before .before .before .before .before .before .before .before .before .before .before .before .before .before .before .before .before .before .before .before .pre .6) (c .before .before .before .before .before .before .before .before .before .before .before .before .before .before .before .before .before .before .settle .result) _ _ (c .before .before .before .before .before .before .before .before .before .before .before .before .before .before .before .before .before .before .settle .ensures .0) (λ f. (c .before .before .before .before .before .before .before .before .before .before .before .before .before .before .before .before .before .before .settle .ensures .1 f .0, c .before .before .before .before .before .before .before .before .before .before .before .before .before .before .before .before .before .before .settle .ensures .1 f .1)) (c .before .before .before .before .before .before .before .before .before .before .before .is-again .result) (c .before .before .before .before .before .before .before .before .before .before .before .is-again .ensures .0) (λ f. c .before .before .before .before .before .before .before .before .before .before .before .is-again .ensures .1 f .0),
-    circling-is p starts (a .i) l (c .before .before .before .before .before .before .before .before .before .before .before .before .before .before .before .before .before .before .before .before .before .before .before .before .before .before .before .before .before .before .before .pre .2) (a .e) (c .before .before .before .before .before .before .before .before .before .before .before .before .before .before .before .before .before .before .before .before .before .before .before .before .before .before .before .before .before .before .before .pre .3) (a .parent) (a .kind) (c .before .before .before .before .before .before .before .before .before .before .before .before .before .before .before .before .before .before .before .before .before .before .before .before .before .before .before .before .before .before .before .pre .4) (c .before .before .before .before .before .before .before .before .before .before .before .before .before .before .before .before .before .before .before .before .before .before .before .before .before .before .before .before .before .before .before .pre .5) (a .full) (a .numbers .now) (a .again .now) (a .endless .now) (c .before .before .before .before .before .before .before .before .before .before .before .before .before .before .before .before .before .before .before .before .before .before .before .before .before .before .before .before .before .before .before .pre .6) (c .before .before .before .before .before .before .before .before .before .before .before .before .before .before .before .before .before .before .before .before .before .before .before .is-unusual .result) (c .before .before .before .before .before .before .settle2 .result) (c .before .before .before .before .before .before .before .before .before .before .before .before .before .before .before .before .before .before .before .before .before .before .before .is-unusual .ensures) _ _ (c .before .before .before .before .before .before .settle2 .ensures .0) (λ f. (c .before .before .before .before .before .before .before .before .before .before .before .before .before .before .before .before .before .before .settle .ensures .1 (c .before .before .before .before .before .before .settle2 .ensures .1 f .0) .0, c .before .before .before .before .before .before .settle2 .ensures .1 f .1, c .before .before .before .before .before .before .settle2 .ensures .1 f .2, c .before .before .before .before .before .before .settle2 .ensures .1 f .3)) (c .is-endless .result) (c .is-endless .ensures .0) (c .is-endless .ensures .1),
-    sighted-element p starts (a .i) l (c .before .before .before .before .before .before .before .before .before .before .before .before .before .before .before .before .before .before .before .before .before .before .before .before .before .before .before .before .before .before .before .pre .2) (a .e) (c .before .before .before .before .before .before .before .before .before .before .before .before .before .before .before .before .before .before .before .before .before .before .before .before .before .before .before .before .before .before .before .pre .3) (a .parent) (a .kind) (c .before .before .before .before .before .before .before .before .before .before .before .before .before .before .before .before .before .before .before .before .before .before .before .before .before .before .before .before .before .before .before .pre .4) (c .before .before .before .before .before .before .before .before .before .before .before .before .before .before .before .before .before .before .before .before .before .before .before .before .before .before .before .before .before .before .before .pre .5) (a .full) (a .numbers .now) (a .again .now) (a .endless .now) (c .before .before .before .before .before .before .before .before .before .before .before .before .before .before .before .before .before .before .before .before .before .before .before .before .before .before .before .before .before .before .before .pre .6) (c .before .before .before .before .before .before .before .before .before .before .before .before .before .before .before .before .before .before .before .before .before .before .before .is-unusual .result) (c .before .before .before .before .before .before .settle2 .result) (c .before .before .before .before .before .before .before .before .before .before .before .before .before .before .before .before .before .before .before .before .before .before .before .is-unusual .ensures) _ _ (c .before .before .before .before .before .before .settle2 .ensures .0) (λ f. (c .before .before .before .before .before .before .before .before .before .before .before .before .before .before .before .before .before .before .settle .ensures .1 (c .before .before .before .before .before .before .settle2 .ensures .1 f .0) .0, c .before .before .before .before .before .before .settle2 .ensures .1 f .1, c .before .before .before .before .before .before .settle2 .ensures .1 f .2, c .before .before .before .before .before .before .settle2 .ensures .1 f .3)) (c .before .before .before .before .before .before .settle2 .kept .1 .1 .1 .1 .1 .1 .0 ∙ c .before .before .before .before .before .before .before .before .before .before .before .before .before .before .before .before .before .before .settle .kept .1 .1 .1 .1 .1 .1 .0) (c .before .before .before .before .before .before .settle2 .kept .1 .1 .1 .1 .1 .1 .1 .0 ∙ c .before .before .before .before .before .before .before .before .before .before .before .before .before .before .before .before .before .before .settle .kept .1 .1 .1 .1 .1 .1 .1 .0) _ (c .before .before .before .before .before .before .before .before .before .before .before .is-again .kept .0) (λ f. c .before .before .before .before .before .before .before .before .before .before .before .is-again .ensures .1 (c .before .before .before .before .before .before .settle2 .ensures .1 f .0) .1))
+    let l : suc (a .i) < length starts = omega (arith, c .before .before .before .before .before .before .before .before .before .before .before .before .before .before .before .before .before .before .before .before .before .before .before .before .before .before .before .before .before .before .before .pre .1) in (
+      repeated-is p starts (a .i) l (c .before .before .before .before .before .before .before .before .before .before .before .before .before .before .before .before .before .before .before .before .before .before .before .before .before .before .before .before .before .before .before .pre .2) (a .e) (c .before .before .before .before .before .before .before .before .before .before .before .before .before .before .before .before .before .before .before .before .before .before .before .before .before .before .before .before .before .before .before .pre .3) (a .full) (a .numbers .now) (a .again .now) (a .endless .now) (c .before .before .before .before .before .before .before .before .before .before .before .before .before .before .before .before .before .before .before .before .before .before .before .before .before .before .before .before .before .before .before .pre .6) (c .before .before .before .before .before .before .before .before .before .before .before .before .before .before .before .before .before .before .settle .result) _ _ (c .before .before .before .before .before .before .before .before .before .before .before .before .before .before .before .before .before .before .settle .ensures .0) (λ f. (c .before .before .before .before .before .before .before .before .before .before .before .before .before .before .before .before .before .before .settle .ensures .1 f .0, c .before .before .before .before .before .before .before .before .before .before .before .before .before .before .before .before .before .before .settle .ensures .1 f .1)) (c .before .before .before .before .before .before .before .before .before .before .before .is-again .result) (c .before .before .before .before .before .before .before .before .before .before .before .is-again .ensures .0) (λ f. c .before .before .before .before .before .before .before .before .before .before .before .is-again .ensures .1 f .0),
+      circling-is p starts (a .i) l (c .before .before .before .before .before .before .before .before .before .before .before .before .before .before .before .before .before .before .before .before .before .before .before .before .before .before .before .before .before .before .before .pre .2) (a .e) (c .before .before .before .before .before .before .before .before .before .before .before .before .before .before .before .before .before .before .before .before .before .before .before .before .before .before .before .before .before .before .before .pre .3) (a .parent) (a .kind) (c .before .before .before .before .before .before .before .before .before .before .before .before .before .before .before .before .before .before .before .before .before .before .before .before .before .before .before .before .before .before .before .pre .4) (c .before .before .before .before .before .before .before .before .before .before .before .before .before .before .before .before .before .before .before .before .before .before .before .before .before .before .before .before .before .before .before .pre .5) (a .full) (a .numbers .now) (a .again .now) (a .endless .now) (c .before .before .before .before .before .before .before .before .before .before .before .before .before .before .before .before .before .before .before .before .before .before .before .before .before .before .before .before .before .before .before .pre .6) (c .before .before .before .before .before .before .before .before .before .before .before .before .before .before .before .before .before .before .before .before .before .before .before .is-unusual .result) (c .before .before .before .before .before .before .settle2 .result) (c .before .before .before .before .before .before .before .before .before .before .before .before .before .before .before .before .before .before .before .before .before .before .before .is-unusual .ensures) _ _ (c .before .before .before .before .before .before .settle2 .ensures .0) (λ f. (c .before .before .before .before .before .before .before .before .before .before .before .before .before .before .before .before .before .before .settle .ensures .1 (c .before .before .before .before .before .before .settle2 .ensures .1 f .0) .0, c .before .before .before .before .before .before .settle2 .ensures .1 f .1, c .before .before .before .before .before .before .settle2 .ensures .1 f .2, c .before .before .before .before .before .before .settle2 .ensures .1 f .3)) (c .is-endless .result) (c .is-endless .ensures .0) (c .is-endless .ensures .1),
+      sighted-element p starts (a .i) l (c .before .before .before .before .before .before .before .before .before .before .before .before .before .before .before .before .before .before .before .before .before .before .before .before .before .before .before .before .before .before .before .pre .2) (a .e) (c .before .before .before .before .before .before .before .before .before .before .before .before .before .before .before .before .before .before .before .before .before .before .before .before .before .before .before .before .before .before .before .pre .3) (a .parent) (a .kind) (c .before .before .before .before .before .before .before .before .before .before .before .before .before .before .before .before .before .before .before .before .before .before .before .before .before .before .before .before .before .before .before .pre .4) (c .before .before .before .before .before .before .before .before .before .before .before .before .before .before .before .before .before .before .before .before .before .before .before .before .before .before .before .before .before .before .before .pre .5) (a .full) (a .numbers .now) (a .again .now) (a .endless .now) (c .before .before .before .before .before .before .before .before .before .before .before .before .before .before .before .before .before .before .before .before .before .before .before .before .before .before .before .before .before .before .before .pre .6) (c .before .before .before .before .before .before .before .before .before .before .before .before .before .before .before .before .before .before .before .before .before .before .before .is-unusual .result) (c .before .before .before .before .before .before .settle2 .result) (c .before .before .before .before .before .before .before .before .before .before .before .before .before .before .before .before .before .before .before .before .before .before .before .is-unusual .ensures) _ _ (c .before .before .before .before .before .before .settle2 .ensures .0) (λ f. (c .before .before .before .before .before .before .before .before .before .before .before .before .before .before .before .before .before .before .settle .ensures .1 (c .before .before .before .before .before .before .settle2 .ensures .1 f .0) .0, c .before .before .before .before .before .before .settle2 .ensures .1 f .1, c .before .before .before .before .before .before .settle2 .ensures .1 f .2, c .before .before .before .before .before .before .settle2 .ensures .1 f .3)) (c .before .before .before .before .before .before .settle2 .kept .1 .1 .1 .1 .1 .1 .0 ∙ c .before .before .before .before .before .before .before .before .before .before .before .before .before .before .before .before .before .before .settle .kept .1 .1 .1 .1 .1 .1 .0) (c .before .before .before .before .before .before .settle2 .kept .1 .1 .1 .1 .1 .1 .1 .0 ∙ c .before .before .before .before .before .before .before .before .before .before .before .before .before .before .before .before .before .before .settle .kept .1 .1 .1 .1 .1 .1 .1 .0) _ (c .before .before .before .before .before .before .before .before .before .before .before .is-again .kept .0) (λ f. c .before .before .before .before .before .before .before .before .before .before .before .is-again .ensures .1 (c .before .before .before .before .before .before .settle2 .ensures .1 f .0) .1),
+    )
 
 pub settle-element-spec : {M : Type 1} → statement M
 settle-element-spec =

@@ -64,40 +64,37 @@ cast-put-if c = omega (arith, c .before .before .before .loop-test .taken, c .be
 put-if-requires : tie.Need-put-if-requires Inv-loop μ-loop
 put-if-requires c κs = omega (arith, c .before .before .before .before .before .before .before .before .before .before .before .pre .2, c .before .before .before .before .before .before .before .before .before .before .before .pre .1, puts-few (c .before .before .before .before .loop .inv .0), c .before .before .before .before .loop .inv .1)
 
-kind-at-requires : tie.Need-kind-at-requires Inv-loop μ-loop
-kind-at-requires c κs =
+is-data-at-requires : tie.Need-is-data-at-requires Inv-loop μ-loop
+is-data-at-requires c κs =
     let a = c .before .before .before .before .before .before .before .before .before .before .before .before .before .before .args in
     (names-divided (a .p .now) (a .starts .now) (a .heads .now) (a .next .now) (c .before .before .before .before .before .before .before .before .before .before .before .before .before .before .pre .0), rw (c .before .before .before .before .named-at .ensures) (named-inside (a .p .now) (a .starts .now) (a .heads .now) (a .next .now) (c .before .before .before .before .before .before .before .before .before .before .before .before .before .before .pre .0) (c .before .before .before .before .before .read-u16 .result)))
 
-is-data-requires : tie.Need-is-data-requires Inv-loop μ-loop
-is-data-requires c κs = tt
-
 add-tagged : tie.Need-add-tagged Inv-loop μ-loop
-add-tagged c = omega (arith, c .before .before .before .before .before .before .before .before .before .before .loop .inv .1, c .before .before .before .before .before .before .before .before .before .before .loop .inv .2, c .before .before .before .before .before .before .before .before .before .before .before .before .before .before .before .before .before .pre .1)
+add-tagged c = omega (arith, c .before .before .before .before .before .before .before .before .before .loop .inv .1, c .before .before .before .before .before .before .before .before .before .loop .inv .2, c .before .before .before .before .before .before .before .before .before .before .before .before .before .before .before .before .pre .1)
 
 add-m : tie.Need-add-m Inv-loop μ-loop
-add-m c = omega (arith, c .before .before .before .before .before .before .before .before .before .loop-test .taken, c .before .before .before .before .before .before .before .before .before .before .before .before .before .before .before .before .before .pre .1)
+add-m c = omega (arith, c .before .before .before .before .before .before .before .before .loop-test .taken, c .before .before .before .before .before .before .before .before .before .before .before .before .before .before .before .before .pre .1)
 
 loop-less : tie.Need-loop-less Inv-loop μ-loop
-loop-less c = omega (arith, c .before .before .before .before .before .before .before .before .before .loop-test .taken)
+loop-less c = omega (arith, c .before .before .before .before .before .before .before .before .loop-test .taken)
 
 loop-again : tie.Need-loop-again Inv-loop μ-loop
 loop-again c =
-    let a = c .before .before .before .before .before .before .before .before .before .before .before .before .before .before .before .before .before .args in
-    let l = c .before .before .before .before .before .before .before .before .before .before .loop in
+    let a = c .before .before .before .before .before .before .before .before .before .before .before .before .before .before .before .before .args in
+    let l = c .before .before .before .before .before .before .before .before .before .loop in
     let es = entriesOf (a .p .now) (a .starts .now) in
     let entry : ℕ → ℕ = entryNamed (a .p .now) es (a .at) in
     let tag : ℕ → ℕ = entryTag (a .p .now) es (a .at) in
-    let is : c .before .before .before .before .before .before .before .named-at .result ≡ entry (l .m) = c .before .before .before .before .before .before .before .named-at .ensures ∙ ap (named es) (c .before .before .before .before .before .before .before .before .read-u16 .ensures ∙ sym (c .before .before .before .before .before .before .before .before .before .before .before .entries-from .ensures .0 (l .m))) in
-    let kind : c .before .is-data .result ≡ right (a .p .now) es (a .at) (l .m) = c .before .is-data .ensures ∙ ap isData (c .before .before .kind-at .ensures ∙ ap (kindOf es) is) in
-    let put = puts-turn (l .m) (l .inv .0) (rw is at (c .before .before .before .before .before .put-if .ensures .0)) in
+    let is : c .before .before .before .before .before .before .named-at .result ≡ entry (l .m) = c .before .before .before .before .before .before .named-at .ensures ∙ ap (named es) (c .before .before .before .before .before .before .before .read-u16 .ensures ∙ sym (c .before .before .before .before .before .before .before .before .before .before .entries-from .ensures .0 (l .m))) in
+    let kind : c .before .is-data-at .result ≡ right (a .p .now) es (a .at) (l .m) = c .before .is-data-at .ensures ∙ ap (λ (r : ℕ). isData (kindOf es r)) is in
+    let put = puts-turn (l .m) (l .inv .0) (rw is at (c .before .before .before .before .put-if .ensures .0)) in
     let Next : Bool → ℕ → Type 0 = λ (w : Bool) (t : ℕ). (t ≤ l .m + 1) × Looking entry (right (a .p .now) es (a .at)) tag (l .m + 1) w t in
     let on : Next (c .if1 .wrong) (c .if1 .tagged) =
     ⊎-elim
     (λ w. moved Next (w .1) (w .2) (omega (arith, l .inv .2), look-data entry (right (a .p .now) es (a .at)) tag (l .m) (l .wrong) (l .tagged) (l .inv .3) (sym kind ∙ w .0 .taken)))
     (λ w. moved Next (w .1 ∙ ap (λ (r : ℕ). l .wrong || not (eqb r 0)) is) (w .2) (omega (arith, l .inv .2), look-other entry (right (a .p .now) es (a .at)) tag (l .m) (l .wrong) (l .tagged) (l .inv .3) (sym kind ∙ w .0 .left) (tag-other (a .p .now) es (entry (l .m)) (sym kind ∙ w .0 .left))))
     (c .if1 .came) in
-    (put, omega (arith, c .before .before .before .before .before .before .before .before .before .loop-test .taken), on .0, on .1)
+    (put, omega (arith, c .before .before .before .before .before .before .before .before .loop-test .taken), on .0, on .1)
 
 same-length : tie.Need-same-length Inv-loop μ-loop
 same-length c = puts-length (c .before .loop .inv .0)
@@ -126,8 +123,7 @@ put-missing-spec =
     add-put-if
     cast-put-if
     put-if-requires
-    kind-at-requires
-    is-data-requires
+    is-data-at-requires
     add-tagged
     add-m
     loop-less

@@ -1,24 +1,20 @@
 -- `elements::tag_at` meets its contract. Assumes nothing.
-use mathlib.Core.Path.{sym, ap, _∙_}
+use mathlib.Core.Path.{sym, _∙_}
 use native.Mathlib.Omega.{arith}
 use borrow.Author.Needs.{needs}
 use Rattle.pool.specs.Walk.{entriesOf}
-use Rattle.naming.specs.Naming.{isData}
 use Rattle.elements.proofs.Tags.{data-some, tag-data, tag-other}
 use Rattle.elements.proofs.tag_at.Statement.{statement}
 use Rattle.elements.proofs.tag_at.Tie as tie
 
-kind-at-requires : tie.Need-kind-at-requires
-kind-at-requires c κs = search needs
-
-is-data-requires : tie.Need-is-data-requires
-is-data-requires c κs = search needs
+is-data-at-requires : tie.Need-is-data-at-requires
+is-data-at-requires c κs = search needs
 
 ddi-at-requires : tie.Need-ddi-at-requires
 ddi-at-requires c κs =
-    let s = c .before .before .before .before .before in
+    let s = c .before .before .before .before in
     let es = entriesOf (s .args .p .now) (s .args .starts .now) in
-    (s .pre .0, data-some es (s .args .number) (ap isData (sym (c .before .before .kind-at .ensures)) ∙ sym (c .before .is-data .ensures) ∙ c .if1 .taken), s .pre .1)
+    (s .pre .0, data-some es (s .args .number) (sym (c .before .is-data-at .ensures) ∙ c .if1 .taken), s .pre .1)
 
 cast-result : tie.Need-cast-result
 cast-result c = search needs
@@ -28,23 +24,22 @@ add-result c = search needs
 
 returns : tie.Need-returns
 returns c =
-    let a = c .before .before .before .before .before .before .args in
+    let a = c .before .before .before .before .before .args in
     let es = entriesOf (a .p .now) (a .starts .now) in
-    let is = tag-data (a .p .now) es (a .number) (ap isData (sym (c .before .before .before .kind-at .ensures)) ∙ sym (c .before .before .is-data .ensures) ∙ c .before .if1 .taken) in
+    let is = tag-data (a .p .now) es (a .number) (sym (c .before .before .is-data-at .ensures) ∙ c .before .if1 .taken) in
     (omega (arith, is, c .ddi-at .ensures), omega arith)
 
 returns-2 : tie.Need-returns-2
 returns-2 c =
-    let a = c .before .before .before .before .before .args in
+    let a = c .before .before .before .before .args in
     let es = entriesOf (a .p .now) (a .starts .now) in
-    (sym (tag-other (a .p .now) es (a .number) (ap isData (sym (c .before .before .kind-at .ensures)) ∙ sym (c .before .is-data .ensures) ∙ c .if1 .left)), omega arith)
+    (sym (tag-other (a .p .now) es (a .number) (sym (c .before .is-data-at .ensures) ∙ c .if1 .left)), omega arith)
 
 pub tag-at-spec : {M : Type 1} → statement M
 tag-at-spec =
     tie.close
     (tie.spec
-    kind-at-requires
-    is-data-requires
+    is-data-at-requires
     ddi-at-requires
     cast-result
     add-result
