@@ -44,7 +44,7 @@ pub fn spread(table: &[Record], rows: &mut [u16])
     }
 }
 
-// The entry of record i, which ends where the next one starts.
+// The entry of record i, which ends where the next one starts. Whoever calls knows that the record can be read, so nothing is tested.
 fn row_at(p: &[u8], starts: &[u16], i: usize) -> Record
     requires { ⌜ Stands (now p) (now starts) i ⌝ }
     ensures { λ r. ⌜ r ≡ rowIn (now (p .entry)) (now (starts .entry)) i ⌝ }
@@ -59,7 +59,8 @@ fn row_at(p: &[u8], starts: &[u16], i: usize) -> Record
     }
 }
 
-// Fills the first so many entries from the pool, by a list of its records' starts. Later entries stay.
+// Fills the first so many entries from the pool, by a list of its records' starts. Later entries stay. The function that made the list
+// has shown that the table has so many entries and that each record can be read.
 pub fn gather(p: &[u8], starts: &[u16], count: usize, table: &mut [Record])
     requires { ⌜ Fillable (now p) (now starts) count (now table) ⌝ }
     ensures { λ _. ⌜ now (table .exit) ≡ gathered (now (p .entry)) (now (starts .entry)) count (now (table .entry)) ⌝ }
