@@ -53,4 +53,4 @@ module _ {M : Type 1} (𝓤 : URA M) (H : Heap 𝓤) (𝓜 : Model 𝓤 H) (𝓖
       (cited 𝓤 H (tripleOf 𝓤 H A count.signature (count.spec 𝓤 H A (𝓜 .mem) (𝓡 .run))) 𝓜 𝓡 env count-def.name count-def.routine calls-count (count-thm.met 𝓤 H 𝓜 𝓖 𝓡))
       (cited 𝓤 H (tripleOf 𝓤 H A answer.signature (answer.spec 𝓤 H A (𝓜 .mem) (𝓡 .run))) 𝓜 𝓡 env answer-def.name answer-def.routine calls-answer (answer-thm.met 𝓤 H 𝓜 𝓖 𝓡)) calls-gather
       (λ κs a d zs ws φ. let g = check-gathers (a .0 .now) zs (recordsIn d) (a .1 .0 .now) (φ .2) (φ .1) in
-      (g .within, λ r e. factI 𝓤 _ (emp 𝓤) (subst (λ x. verdictOf x ≡ checkOf (a .0 .now) (length (a .1 .0 .now))) (sym e) (φ .0), subst (λ x. recordsIn x ≡ countOf (a .0 .now) (length (a .1 .0 .now))) (sym e) (φ .1), g .after, φ .3)))
+      (g .fillable, λ r e. factI 𝓤 _ (emp 𝓤) (subst (λ x. verdictOf x ≡ checkOf (a .0 .now) (length (a .1 .0 .now))) (sym e) (φ .0), subst (λ x. recordsIn x ≡ countOf (a .0 .now) (length (a .1 .0 .now))) (sym e) (φ .1), g .after, φ .3)))

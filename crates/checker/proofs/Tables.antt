@@ -2,30 +2,24 @@
 -- nothing.
 use mathlib.Core.Path.{_≡_, refl, sym, ap, _∙_}
 use mathlib.Core.List.{List}
-use Prim.Native.Nat.{ℕ, _+_, _≤_, _<_}
+use Prim.Native.Nat.{ℕ, _<_}
 use native.Mathlib.Decide.{decLt}
 use native.Mathlib.Omega.{arith}
 use borrow.Author.Tests.{eq-eqb, ne-eqb}
-use lib.ListN.{length, getD}
+use lib.ListN.{length}
 use Rattle.pool.specs.Answer.{Answer, answerOf}
 use Rattle.pool.specs.Answer as Reading
 use Rattle.pool.specs.Reading.{readOf}
 use Rattle.pool.specs.Walk.{Listed}
 use Rattle.pool.specs.declared.Outcome.{Outcome}
 use Rattle.working_table.specs.declared.Record.{Record}
-use Rattle.working_table.proofs.Gathered.{Gathers, listed-gathers, listed-within, outcome-counts, outcome-none}
+use Rattle.working_table.proofs.Gathered.{Gathers, listed-gathers, outcome-counts, outcome-none}
 use Rattle.checker.specs.Checking.{countOf}
 
 pub check-gathers : (p starts : List ℕ) (n : ℕ) (table : List Record) → Listed p (length table) starts → n ≡ countOf p (length table) → Gathers p starts n table
 unfolding countOf
 check-gathers p starts n table listed e =
     listed-gathers p starts n table listed (λ z. e ∙ rw (eq-eqb (readOf p (length table) .number) 0 z)) (λ z. e ∙ rw (ne-eqb (readOf p (length table) .number) 0 z))
-
--- each record that is counted lies within the pool
-pub check-within : (p starts : List ℕ) (n room : ℕ) → Listed p room starts → n ≡ countOf p room → (i : ℕ) → i < n → getD starts i 0 + 12 ≤ length p
-unfolding countOf
-check-within p starts n room listed e =
-    listed-within p starts n room listed (λ z. e ∙ rw (eq-eqb (readOf p room .number) 0 z)) (λ z. e ∙ rw (ne-eqb (readOf p room .number) 0 z))
 
 -- what reading counts is what checking does
 pub read-counts : (p : List ℕ) (room : ℕ) (r : Outcome) → answerOf r ≡ readOf p room → Reading.recordsIn r ≡ countOf p room

@@ -17,13 +17,13 @@ pub fn same(verdict: Verdict) -> Verdict
     verdict
 }
 
-// A list for a pool of at most 12,288 bytes, and one for every pool: clearing a long one is a good part of the time that a short pool
+// A list for a pool of at most 12,276 bytes, and one for every pool: clearing a long one is a good part of the time that a short pool
 // takes. A record has at least 12 bytes, and the end of the last stands behind the starts.
 fn check_in_short(p: &[u8], table: &mut [Record], faults: &mut [u16]) -> Verdict
-    requires { ⌜ length (now p) ≤ 12288 ⌝ }
+    requires { ⌜ length (now p) ≤ 12276 ⌝ }
     ensures { λ r. ⌜ ChecksInto (now (p .entry)) (now (table .entry)) (now (faults .entry)) r (now (table .exit)) (now (faults .exit)) ⌝ }
 {
-    let mut starts = [0u16; 1025];
+    let mut starts = [0u16; 1024];
     let verdict = super::check_by(p, table.len(), &mut starts, faults);
     working_table::gather(p, &starts, super::records_of(verdict), table);
     same(verdict)
@@ -42,7 +42,7 @@ fn check_in_long(p: &[u8], table: &mut [Record], faults: &mut [u16]) -> Verdict
 pub fn check(p: &[u8], table: &mut [Record], faults: &mut [u16]) -> Verdict
     ensures { λ r. ⌜ (verdictOf r ≡ checkOf (now (p .entry)) (length (now (table .entry)))) × (recordsIn r ≡ countOf (now (p .entry)) (length (now (table .entry)))) × (now (table .exit) ≡ recordsAfter (now (p .entry)) (now (table .entry))) × (now (faults .exit) ≡ faultsAfter (now (p .entry)) (length (now (table .entry))) (now (faults .entry))) ⌝ }
 {
-    if p.len() <= 12288 {
+    if p.len() <= 12276 {
         return check_in_short(p, table, faults);
     }
     check_in_long(p, table, faults)

@@ -21,7 +21,7 @@ fn judgement_of(judged: Judged) -> Judgement
     judged.judgement
 }
 
-// By a list for a pool of at most 12,288 bytes, and by one for every pool.
+// By a list for a pool of at most 12,276 bytes, and by one for every pool.
 fn judge_short(
     p: &[u8],
     table: &mut [Record],
@@ -30,10 +30,10 @@ fn judge_short(
     ddi: u16,
     value: i32,
 ) -> Judgement
-    requires { ⌜ length (now p) ≤ 12288 ⌝ }
+    requires { ⌜ length (now p) ≤ 12276 ⌝ }
     ensures { λ r. ⌜ (r .number ≡ judgeNumber (now (p .entry)) (length (now (table .entry))) element) × (r .error ≡ judgeError (now (p .entry)) (length (now (table .entry))) command element ddi value) × (now (table .exit) ≡ judgedRecords (now (p .entry)) (now (table .entry)) element) ⌝ }
 {
-    let mut starts = [0u16; 1025];
+    let mut starts = [0u16; 1024];
     let judged = judging::judge_by(p, table.len(), &mut starts, command, element, ddi, value);
     working_table::gather(p, &starts, judged_records(judged), table);
     judgement_of(judged)
@@ -66,7 +66,7 @@ pub fn judge(
 ) -> Judgement
     ensures { λ r. ⌜ (r .number ≡ judgeNumber (now (p .entry)) (length (now (table .entry))) element) × (r .error ≡ judgeError (now (p .entry)) (length (now (table .entry))) command element ddi value) × (now (table .exit) ≡ judgedRecords (now (p .entry)) (now (table .entry)) element) ⌝ }
 {
-    if p.len() <= 12288 {
+    if p.len() <= 12276 {
         return judge_short(p, table, command, element, ddi, value);
     }
     judge_long(p, table, command, element, ddi, value)

@@ -54,4 +54,4 @@ module _ {M : Type 1} (𝓤 : URA M) (H : Heap 𝓤) (𝓜 : Model 𝓤 H) (𝓖
       (λ κs qs a l ν δ. known-core (((κs .0, (ν ∷ [], tt)), (qs .0, (fullShare, tt)), tt, (a .0, (length (a .1 .0 .now), (record { ptr = (l, 0); name = δ; now = replicate (s .numbers) 0 }, a .1 .1))), _), tt))
       (cited 𝓤 H (tripleOf 𝓤 H A count.signature (count.spec 𝓤 H A (𝓜 .mem) (𝓡 .run))) 𝓜 𝓡 env count-def.name count-def.routine calls-count (count-thm.met 𝓤 H 𝓜 𝓖 𝓡))
       (cited 𝓤 H (tripleOf 𝓤 H A answer.signature (answer.spec 𝓤 H A (𝓜 .mem) (𝓡 .run))) 𝓜 𝓡 env answer-def.name answer-def.routine calls-answer (answer-thm.met 𝓤 H 𝓜 𝓖 𝓡)) calls-gather
-      (λ κs a d zs ws φ. let g = check-gathers (a .0 .now) zs (d .records) (a .1 .0 .now) (φ .2) (φ .1) in (g .within, λ r e. factI 𝓤 _ (emp 𝓤) (subst (λ x. Finds (a .0 .now) (length (a .1 .0 .now)) (a .1 .1 .0) x) (sym e) (φ .0), g .after)))
+      (λ κs a d zs ws φ. let g = check-gathers (a .0 .now) zs (d .records) (a .1 .0 .now) (φ .2) (φ .1) in (g .fillable, λ r e. factI 𝓤 _ (emp 𝓤) (subst (λ x. Finds (a .0 .now) (length (a .1 .0 .now)) (a .1 .1 .0) x) (sym e) (φ .0), g .after)))

@@ -62,12 +62,12 @@ pub fn find_by(p: &[u8], room: usize, starts: &mut [u16], id: u16) -> Found
     }
 }
 
-// A list for a pool of at most 12,288 bytes, and one for every pool, as for a check.
+// A list for a pool of at most 12,276 bytes, and one for every pool, as for a check.
 fn find_text_short(p: &[u8], table: &mut [Record], id: u16) -> Place
-    requires { ⌜ length (now p) ≤ 12288 ⌝ }
+    requires { ⌜ length (now p) ≤ 12276 ⌝ }
     ensures { λ r. ⌜ Finds (now (p .entry)) (length (now (table .entry))) id r × (now (table .exit) ≡ recordsAfter (now (p .entry)) (now (table .entry))) ⌝ }
 {
-    let mut starts = [0u16; 1025];
+    let mut starts = [0u16; 1024];
     let found = find_by(p, table.len(), &mut starts, id);
     working_table::gather(p, &starts, found_records(found), table);
     found_place(found)
@@ -86,7 +86,7 @@ fn find_text_long(p: &[u8], table: &mut [Record], id: u16) -> Place
 pub fn find_text(p: &[u8], table: &mut [Record], id: u16) -> Place
     ensures { λ r. ⌜ Finds (now (p .entry)) (length (now (table .entry))) id r × (now (table .exit) ≡ recordsAfter (now (p .entry)) (now (table .entry))) ⌝ }
 {
-    if p.len() <= 12288 {
+    if p.len() <= 12276 {
         return find_text_short(p, table, id);
     }
     find_text_long(p, table, id)
@@ -115,12 +115,12 @@ fn labels_by(p: &[u8], room: usize, starts: &mut [u16]) -> Shown
     }
 }
 
-// By a list for a pool of at most 12,288 bytes, and by one for every pool.
+// By a list for a pool of at most 12,276 bytes, and by one for every pool.
 pub fn labels_short(p: &[u8], table: &mut [Record]) -> DeviceLabels
-    requires { ⌜ length (now p) ≤ 12288 ⌝ }
+    requires { ⌜ length (now p) ≤ 12276 ⌝ }
     ensures { λ r. ⌜ Labelled (now (p .entry)) (length (now (table .entry))) r × (now (table .exit) ≡ recordsAfter (now (p .entry)) (now (table .entry))) ⌝ }
 {
-    let mut starts = [0u16; 1025];
+    let mut starts = [0u16; 1024];
     let shown = labels_by(p, table.len(), &mut starts);
     working_table::gather(p, &starts, shown_records(shown), table);
     shown_labels(shown)
@@ -139,7 +139,7 @@ pub fn labels_long(p: &[u8], table: &mut [Record]) -> DeviceLabels
 pub fn labels(p: &[u8], table: &mut [Record]) -> DeviceLabels
     ensures { λ r. ⌜ Labelled (now (p .entry)) (length (now (table .entry))) r × (now (table .exit) ≡ recordsAfter (now (p .entry)) (now (table .entry))) ⌝ }
 {
-    if p.len() <= 12288 {
+    if p.len() <= 12276 {
         return labels_short(p, table);
     }
     labels_long(p, table)

@@ -5,7 +5,7 @@
 --     Orders           that the tokens, what the parameters own and what is said at exit can be had in the order in which they stand
 -- Assumes `Given`.
 use mathlib.Core.Path.{_≡_, refl, sym, _∙_, ap, subst}
-use Prim.Native.Nat.{ℕ, _<_, _≤_, _^_}
+use Prim.Native.Nat.{ℕ, _<_, _^_}
 use mathlib.Core.List.{List, [], _∷_, _++_}
 use lib.Dec.{lit<}
 use lib.ListN.{length, replicate, length-replicate}
@@ -54,8 +54,9 @@ fill-script #core #count #fill #answer N l dt rt vs₀ vs ps b o n =
 module _ {M : Type 1} (𝓤 : URA M) (H : Heap 𝓤) (A : Atoms 𝓤) (W : Given 𝓤 H A) (C : Calls 𝓤 H) (R : RattleType) (N : ℕ)
     -- the table's lifetime and what lies there; what the other parameters are before it and after it
     (κ′ : Lft) (q′ : Share) (b o : ℕ) (γ : GName) (ys : List (R .Denot)) (vs₀ vs : List Val)
-    -- what of the others the filling gets beside the list, the count and the table, what that owns, and how it leaves the table
-    (ps : List Val) (Copied : Fml) (after : List ℕ → ℕ → List (R .Denot))
+    -- what of the others the filling gets beside the list, the count and the table, what that owns, what the filling asks, and how it
+    -- leaves the table
+    (ps : List Val) (Copied : Fml) (Wants : List ℕ → ℕ → Type 0) (after : List ℕ → ℕ → List (R .Denot))
     -- in whatever order they stand: the tokens, here and for the covered function, where a new lifetime stands for the table's
     (Toks TF : SProp 𝓤) (TC : ℕ → SProp 𝓤)
     -- what the parameters own; of the covered function's the list's place and length stand for the table
@@ -134,14 +135,14 @@ module _ {M : Type 1} (𝓤 : URA M) (H : Heap 𝓤) (A : Atoms 𝓤) (W : Given
     abbrev pub Filled : SProp 𝓤
     Filled = wand 𝓤 (list-at (array w16 0 N)) (H .⇛ Asked)
 
-  -- why the table's last list is right: it has room for the records that the answer counts, and filled with them it is as the `ensures` says
+  -- why the table's last list is right: the filling has what it asks for, and the table that it leaves is as the `ensures` says
   abbrev pub Right : Type 1
-  Right = (d : D .Denot) (w : WC) → length (zs-of w) ≡ length zeros → ΦC d w → (countOf d ≤ length ys) × ((r : RT .Denot) → answers d r → ent 𝓤 (emp 𝓤) (Said r (exit-of w (after (zs-of w) (countOf d)))))
+  Right = (d : D .Denot) (w : WC) → length (zs-of w) ≡ length zeros → ΦC d w → Wants (zs-of w) (countOf d) × ((r : RT .Denot) → answers d r → ent 𝓤 (emp 𝓤) (Said r (exit-of w (after (zs-of w) (countOf d)))))
 
   module _ (fm : FmC 𝓤 H (W .laws) C) (big : Room u16 N) (room : Room R (length ys)) (makesD : Makes 𝓤 H A D (Is D)) (makesR : Makes 𝓤 H A RT (Is RT))
       (typedD : (d : D .Denot) (w : Val) → Is D d (w ∷ []) → Typed dt w) (typedR : (r : RT .Denot) (w : Val) → Is RT r (w ∷ []) → Typed rt w) (#core #count #fill #answer : Name)
       (orders : Orders) (core : (l ν : ℕ) (δ : GName) → ent 𝓤 (CorePre l ν δ) (C #core (vs₀ ++ (vint w64 (length ys) ∷ sliceVal (l, 0) N ∷ vs)) (CorePost l ν δ)))
-      (count : Triple 𝓤 (C #count) (Unary 𝓤 H A D usize (λ d n. n ≡ countOf d))) (answer : Triple 𝓤 (C #answer) (Unary 𝓤 H A D RT answers)) (fill : Fills 𝓤 H A R κ′ q′ b o γ ys Toks C #fill ps Copied after) (right : Right) where
+      (count : Triple 𝓤 (C #count) (Unary 𝓤 H A D usize (λ d n. n ≡ countOf d))) (answer : Triple 𝓤 (C #answer) (Unary 𝓤 H A D RT answers)) (fill : Fills 𝓤 H A R κ′ q′ b o γ ys Toks C #fill ps Copied Wants after) (right : Right) where
     zeros-length : length zeros ≡ N
     zeros-length = length-replicate N 0
 
@@ -170,14 +171,14 @@ module _ {M : Type 1} (𝓤 : URA M) (H : Heap 𝓤) (A : Atoms 𝓤) (W : Given
     abbrev Held-all : ℕ → WC → List ℕ → List (Item 𝓤)
     Held-all l x zs = ‵ (flft κ′ q′) ∷ raw Toks ∷ ‵ TOwn ∷ ‵ (others x) ∷ ‵ (arr-parts (shares u16) (length zs) .part fullShare zs l 0) ∷ ‵ Copied ∷ []
 
-    fill-called : (l : ℕ) (d : D .Denot) (w : Val) (x : WC) (zs : List ℕ) (n : ℕ) → Is D d (w ∷ []) → length zs ≡ length zeros → n < 2 ^ 64 → n ≤ length ys → ((r : RT .Denot) → answers d r → ent 𝓤 (emp 𝓤) (Said r (exit-of x (after zs n))))
+    fill-called : (l : ℕ) (d : D .Denot) (w : Val) (x : WC) (zs : List ℕ) (n : ℕ) → Is D d (w ∷ []) → length zs ≡ length zeros → n < 2 ^ 64 → Wants zs n → ((r : RT .Denot) → answers d r → ent 𝓤 (emp 𝓤) (Said r (exit-of x (after zs n))))
         → Sq W (Held-all l x zs) (upd (C #fill (ps ++ (sliceVal (l, 0) (length zs) ∷ vint w64 n ∷ sliceVal (b, o) (length ys) ∷ [])) (After l w)))
-    fill-called l d w x zs n is e fits within so =
+    fill-called l d w x zs n is e fits wanted so =
         lft-new ! tt (λ ν. move ! (5 ∷ []) $
         use1 W (later (some (λ (δ : GName). ‵ (ROwn (ν ∷ []) (rows l δ zs)) ⊛ ‵ (flent (ν ∷ []) (arr-parts (shares u16) (length zs) .part fullShare zs l 0))))) (lends-shr-slice 𝓤 H A W u16 (named 0) (ν ∷ []) fullShare zs l 0 (subst (Room u16) (sym e) long)) $ await ! tt $ pick ! (λ δ. split ! $
         -- [the list's; the lender's part; ν's token; κ′'s; Toks; the table's; the others; what is copied]
         move ! (2 ∷ 3 ∷ 4 ∷ 7 ∷ 0 ∷ 5 ∷ []) $ cut (‵ (flft (ν ∷ []) fullShare) ∷ ‵ (flft κ′ q′) ∷ raw Toks ∷ ‵ Copied ∷ ‵ (ROwn (ν ∷ []) (rows l δ zs)) ∷ ‵ TOwn ∷ []) (raw (FillPre 𝓤 H A R κ′ q′ b o γ ys Toks Copied l ν δ zs) ∷ []) _ (id⊢ 𝓤 _) $ at-once ! $
-        asking 𝓤 H A W C fm ! #fill _ (FillPre 𝓤 H A R κ′ q′ b o γ ys Toks Copied l ν δ zs) (FillPost 𝓤 H A R κ′ q′ b o γ ys Toks ν (after zs n)) (After l w) (fill l ν δ zs n fits within) (λ w₂. updating {P = Gathered #core #count #fill #answer l w w₂} ! $
+        asking 𝓤 H A W C fm ! #fill _ (FillPre 𝓤 H A R κ′ q′ b o γ ys Toks Copied l ν δ zs) (FillPost 𝓤 H A R κ′ q′ b o γ ys Toks ν (after zs n)) (After l w) (fill l ν δ zs n fits wanted) (λ w₂. updating {P = Gathered #core #count #fill #answer l w w₂} ! $
         use1 W (later (some (λ (us : List (R .Denot)). ((‵ (flft (ν ∷ []) fullShare) ⊛ ‵ (flft κ′ q′) ⊛ raw Toks ⊛ ‵ (finally R γ us) ⊛ ‵ (unit .own tt (w₂ ∷ []))) ⊛ raw (fact 𝓤 (length us ≡ length ys))) ⊛ raw (fact 𝓤 (us ≡ after zs n))))) (id⊢ 𝓤 _) $ await ! tt $ pick ! (λ us.
         split ! $ move ! (1 ∷ []) $ heard ! (us ≡ after zs n) (λ e₂. split ! $ move ! (1 ∷ []) $ heard ! (length us ≡ length ys) (λ l₂. split ! $ move ! (1 ∷ []) $ split ! $ move ! (1 ∷ []) $ split ! $ move ! (1 ∷ []) $ split ! $ move ! (1 ∷ []) $
         -- [the result; the table's last list; Toks; κ′'s token; ν's; the lender's part; the others]
@@ -198,7 +199,7 @@ module _ {M : Type 1} (𝓤 : URA M) (H : Heap 𝓤) (A : Atoms 𝓤) (W : Given
         updating {P = Counted #core #count #fill #answer l w w₁} ! $
         subst (λ (k : ℕ). Sq W (Held-all l x zs) (upd (C #fill (ps ++ (sliceVal (l, 0) k ∷ w₁ ∷ sliceVal (b, o) (length ys) ∷ [])) (After l w)))) (e ∙ zeros-length)
         (subst (λ (v : Val). Sq W (Held-all l x zs) (upd (C #fill (ps ++ (sliceVal (l, 0) (length zs) ∷ v ∷ sliceVal (b, o) (length ys) ∷ [])) (After l w)))) (sym (ap only (is₁ .0)))
-        (fill-called l d w x zs n is e (is₁ .1) (subst (λ (k : ℕ). k ≤ length ys) (sym e₁) (right d x e φ .0)) (λ r a. subst (λ (k : ℕ). ent 𝓤 (emp 𝓤) (Said r (exit-of x (after zs k)))) (sym e₁) (right d x e φ .1 r a)))))
+        (fill-called l d w x zs n is e (is₁ .1) (subst (Wants zs) (sym e₁) (right d x e φ .0)) (λ r a. subst (λ (k : ℕ). ent 𝓤 (emp 𝓤) (Said r (exit-of x (after zs k)))) (sym e₁) (right d x e φ .1 r a)))))
 
     -- ---- the list is lent to the covered function
     abbrev Lends : ℕ → ℕ → GName → Fml

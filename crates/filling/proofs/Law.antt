@@ -4,7 +4,7 @@
 --     fills-table      a function of that code meets a contract. The covered function has the table's length and the list where the function has the table
 -- Assumes `Given`.
 use mathlib.Core.Path.{_≡_, refl, sym, subst}
-use Prim.Native.Nat.{ℕ, suc, _+_, _≤_}
+use Prim.Native.Nat.{ℕ, suc, _+_}
 use mathlib.Core.List.{List, [], _∷_, _++_, map}
 use lib.Dec.{lit<}
 use lib.ListN.{length, replicate}
@@ -88,8 +88,9 @@ module _ {M : Type 1} (𝓤 : URA M) (H : Heap 𝓤) (A : Atoms 𝓤) (W : Given
     (Needs : (κs : Lfts (suc n)) → Args (taking R (suc n) (suc j) ok bs ks₀ ss ks (T .row)) κs → List ℕ → Type 0)
     (Tells : (κs : Lfts (suc n)) (a : Args (taking R (suc n) (suc j) ok bs ks₀ ss ks (T .row)) κs) → D .row .Denot → Fins κs bs ks₀ (fore κs bs (from-table R (suc n) (suc j) ok bs ks₀ ss ks (T .row)) a) → List ℕ → Fins κs ss ks (aft κs bs (from-table R (suc n) (suc j) ok bs ks₀ ss ks (T .row)) a .1) → Type 0)
     (countOf : D .row .Denot → ℕ) (answers : D .row .Denot → T .row .Denot → Type 0)
-    -- the pool, which the filling gets once more, and how that leaves the table
-    (pool : (κs : Lfts (suc n)) → Args (taking R (suc n) (suc j) ok bs ks₀ ss ks (T .row)) κs → RefT (List ℕ)) (after : List ℕ → List ℕ → ℕ → List (R .Denot) → List (R .Denot)) where
+    -- the pool, which the filling gets once more; what the filling asks of it, of the list, of the count and of the table; and how it leaves
+    -- the table
+    (pool : (κs : Lfts (suc n)) → Args (taking R (suc n) (suc j) ok bs ks₀ ss ks (T .row)) κs → RefT (List ℕ)) (Wants : List ℕ → List ℕ → ℕ → List (R .Denot) → Type 0) (after : List ℕ → List ℕ → ℕ → List (R .Denot) → List (R .Denot)) where
   abbrev S : Signature
   S = taking R (suc n) (suc j) ok bs ks₀ ss ks (T .row)
 
@@ -132,6 +133,9 @@ module _ {M : Type 1} (𝓤 : URA M) (H : Heap 𝓤) (A : Atoms 𝓤) (W : Given
 
     abbrev Copied : Fml
     Copied = POwn (κs .0) (pool κs a)
+
+    abbrev wants-so : List ℕ → ℕ → Type 0
+    wants-so zs k = Wants (pool κs a .now) zs k (t .now)
 
     abbrev filled-so : List ℕ → ℕ → List (R .Denot)
     filled-so zs k = after (pool κs a .now) zs k (t .now)
@@ -199,7 +203,7 @@ module _ {M : Type 1} (𝓤 : URA M) (H : Heap 𝓤) (A : Atoms 𝓤) (W : Given
     Fn-post v = H .⇛ (ex 𝓤 (λ (r : T .row .Denot). sep 𝓤 (sep 𝓤 (toks 𝓤 A (suc n) κs qs) (sem 𝓤 H A (T .row .own r (v ∷ [])))) (ex 𝓤 (λ (w : WF). sep 𝓤 (sem 𝓤 H A (leftsF w)) (Fn-says r w)))))
 
     abbrev pub Is-right : Type 1
-    Is-right = (d : D .row .Denot) (w : WC) → length (w₁ w .1 .0) ≡ length zeros → Core-says d w → (countOf d ≤ length (t .now)) × ((r : T .row .Denot) → answers d r → ent 𝓤 (emp 𝓤) (Fn-says r (exit-of w (filled-so (w₁ w .1 .0) (countOf d)))))
+    Is-right = (d : D .row .Denot) (w : WC) → length (w₁ w .1 .0) ≡ length zeros → Core-says d w → wants-so (w₁ w .1 .0) (countOf d) × ((r : T .row .Denot) → answers d r → ent 𝓤 (emp 𝓤) (Fn-says r (exit-of w (filled-so (w₁ w .1 .0) (countOf d)))))
 
     abbrev Owned : Fml
     Owned = owns (typesAt (bs ++ us) κs) a (valss (typesAt (bs ++ us) κs) (spells (typesAt (bs ++ us) κs) (all-held κs)) a)
@@ -216,7 +220,7 @@ module _ {M : Type 1} (𝓤 : URA M) (H : Heap 𝓤) (A : Atoms 𝓤) (W : Given
     abbrev pub Copies : Type 1
     Copies = ent 𝓤 (sem 𝓤 H A (fsep B X)) (sem 𝓤 H A (fsep Copied (fsep B X)))
 
-    ordered : Copies → Orders 𝓤 H A W C R N (lftAt (suc n) (suc j) ok κs) (shareAt (suc n) (suc j) ok qs) (t .ptr .0) (t .ptr .1) (t .name) (t .now) vs₀ vs₁ ps Copied filled-so (toks-but 𝓤 H A W (suc n) (suc j) ok κs qs) (toks 𝓤 A (suc n) κs qs) TC (fsep B X) Owned OC WC WF (λ w. w₁ w .1 .0) others exit-of leftsC leftsF (D .row) (T .row) (D .mir) (T .mir) (λ zs. fact 𝓤 (Needs κs a zs)) Core-says countOf answers Fn-says
+    ordered : Copies → Orders 𝓤 H A W C R N (lftAt (suc n) (suc j) ok κs) (shareAt (suc n) (suc j) ok qs) (t .ptr .0) (t .ptr .1) (t .name) (t .now) vs₀ vs₁ ps Copied wants-so filled-so (toks-but 𝓤 H A W (suc n) (suc j) ok κs qs) (toks 𝓤 A (suc n) κs qs) TC (fsep B X) Owned OC WC WF (λ w. w₁ w .1 .0) others exit-of leftsC leftsF (D .row) (T .row) (D .mir) (T .mir) (λ zs. fact 𝓤 (Needs κs a zs)) Core-says countOf answers Fn-says
     ordered copies = record {
       copied = copies;
       tokens-out = subst (λ (P : SProp 𝓤). ent 𝓤 P (sep 𝓤 Tok Toks)) (toks-at 𝓤 H A W (suc n) (suc j) ok κs qs) (toks-out 𝓤 H A W Tok (suc n) (suc j) ok κs qs);
@@ -242,8 +246,8 @@ module _ {M : Type 1} (𝓤 : URA M) (H : Heap 𝓤) (A : Atoms 𝓤) (W : Given
     abbrev Held : List Cell
     Held = held (typesAt (bs ++ us) κs) (all-held κs) a
 
-    filling : (#fill : Name) → Triple 𝓤 (C #fill) (PoolFilling 𝓤 H A R after) → Fills 𝓤 H A R (lftAt (suc n) (suc j) ok κs) (shareAt (suc n) (suc j) ok qs) (t .ptr .0) (t .ptr .1) (t .name) (t .now) Toks C #fill ps Copied filled-so
-    filling = by-pool 𝓤 H A R (lftAt n j ok (κs .1)) (shareAt n j ok (qs .1)) (t .ptr .0) (t .ptr .1) (t .name) (t .now) Toks W C fm (κs .0) (qs .0) (pool κs a) (toks-but 𝓤 H A W n j ok (κs .1) (qs .1)) (id⊢ 𝓤 Toks) (id⊢ 𝓤 Toks) after
+    filling : (#fill : Name) → Triple 𝓤 (C #fill) (PoolFilling 𝓤 H A R Wants after) → Fills 𝓤 H A R (lftAt (suc n) (suc j) ok κs) (shareAt (suc n) (suc j) ok qs) (t .ptr .0) (t .ptr .1) (t .name) (t .now) Toks C #fill ps Copied wants-so filled-so
+    filling = by-pool 𝓤 H A R (lftAt n j ok (κs .1)) (shareAt n j ok (qs .1)) (t .ptr .0) (t .ptr .1) (t .name) (t .now) Toks W C fm (κs .0) (qs .0) (pool κs a) (toks-but 𝓤 H A W n j ok (κs .1) (qs .1)) (id⊢ 𝓤 Toks) (id⊢ 𝓤 Toks) Wants after
 
     -- what a function's own code owes: that its locals are of the types that the lines need, and that the lines ask what is asked here
     abbrev pub Coded : Fn → Name → Name → Name → Name → List Line → Type 0
@@ -260,7 +264,7 @@ module _ {M : Type 1} (𝓤 : URA M) (H : Heap 𝓤) (A : Atoms 𝓤) (W : Given
       → ((κs : Lfts (suc n)) (qs : Shares (suc n)) (a : Args S κs) → Are-all κs a → Coded κs qs a f #core #count #fill #answer ls)
       → Room u16 N → ((κs : Lfts (suc n)) → Tellss (typesAt (bs ++ us) κs) (Ises (typesAt (bs ++ us) κs)) (spells (typesAt (bs ++ us) κs) (all-held κs)))
       → ((κs : Lfts (suc n)) (a : Args S κs) → ent 𝓤 (Asks κs a) (fact 𝓤 (Needs κs a (replicate N 0))))
-      → Core-known #core → Triple 𝓤 (C #count) (Unary 𝓤 H A (D .row) usize (λ d n. n ≡ countOf d)) → Triple 𝓤 (C #answer) (Unary 𝓤 H A (D .row) (T .row) answers) → Triple 𝓤 (C #fill) (PoolFilling 𝓤 H A R after)
+      → Core-known #core → Triple 𝓤 (C #count) (Unary 𝓤 H A (D .row) usize (λ d n. n ≡ countOf d)) → Triple 𝓤 (C #answer) (Unary 𝓤 H A (D .row) (T .row) answers) → Triple 𝓤 (C #fill) (PoolFilling 𝓤 H A R Wants after)
       → ((κs : Lfts (suc n)) (qs : Shares (suc n)) (a : Args S κs) → Copies κs qs a) → ((κs : Lfts (suc n)) (qs : Shares (suc n)) (a : Args S κs) → Is-right κs qs a)
       → Meets 𝓤 H A S (WpFn 𝓤 H C Λ f) (closing 𝓤 H A (ending R (suc n) (suc j) ok bs ks₀ ss ks (T .row)) (stating R (suc n) (suc j) ok bs ks₀ ss ks (T .row) 𝓤 Asks Says))
   fills-table f #core #count #fill #answer ls e coded big tells need core count answer fill copies right y =
@@ -274,7 +278,7 @@ module _ {M : Type 1} (𝓤 : URA M) (H : Heap 𝓤) (A : Atoms 𝓤) (W : Given
         h .0,
         h .1,
         subst (λ (s : Script). ent 𝓤 (Entry κs qs a) (meaning 𝓤 H C (Fn-post κs qs a) s)) (h .2 .1)
-            (filled-as 𝓤 H A W C R N (lftAt (suc n) (suc j) ok κs) (shareAt (suc n) (suc j) ok qs) (t κs qs a .ptr .0) (t κs qs a .ptr .1) (t κs qs a .name) (t κs qs a .now) (vs₀ κs qs a) (vs₁ κs qs a) (ps κs qs a) (Copied κs qs a) (filled-so κs qs a) (Toks κs qs a) (toks 𝓤 A (suc n) κs qs) (TC κs qs a) (fsep (B κs qs a) (X κs qs a)) (Owned κs qs a) (OC κs qs a)
+            (filled-as 𝓤 H A W C R N (lftAt (suc n) (suc j) ok κs) (shareAt (suc n) (suc j) ok qs) (t κs qs a .ptr .0) (t κs qs a .ptr .1) (t κs qs a .name) (t κs qs a .now) (vs₀ κs qs a) (vs₁ κs qs a) (ps κs qs a) (Copied κs qs a) (wants-so κs qs a) (filled-so κs qs a) (Toks κs qs a) (toks 𝓤 A (suc n) κs qs) (TC κs qs a) (fsep (B κs qs a) (X κs qs a)) (Owned κs qs a) (OC κs qs a)
             (WC κs qs a) (WF κs qs a) (λ w. w₁ κs qs a w .1 .0) (others κs qs a) (exit-of κs qs a) (leftsC κs qs a) (leftsF κs qs a) (D .row) (T .row) (D .mir) (T .mir) (λ zs. fact 𝓤 (Needs κs a zs)) (Core-says κs qs a) countOf answers (Fn-says κs qs a)
             fm big (are-aft κs bs us (cs₀ κs) (slice-cell, cs κs) a are .0 .0 .1) (D .makes) (T .makes) (D .typed) (T .typed) #core #count #fill #answer (ordered κs qs a (copies κs qs a)) (core κs qs a) count answer (filling κs qs a #fill fill) (right κs qs a) (h .2 .0)),
       )) (coded κs qs a are))))))))

@@ -58,7 +58,7 @@ pub extern "C" fn lachsbrille_judge(
 ) -> u32
     ensures { λ r. ⌜ (r ≡ judgeNumber (now (p .entry)) (length (now (table .entry))) element) × (now (error .exit) ≡ judgeError (now (p .entry)) (length (now (table .entry))) command element ddi value) × (now (table .exit) ≡ judgedRecords (now (p .entry)) (now (table .entry)) element) ⌝ }
 {
-    if p.len() <= 12288 {
+    if p.len() <= 12276 {
         return super::pools::judge_short(p, table, command, element, ddi, value, error);
     }
     super::pools::judge_long(p, table, command, element, ddi, value, error)

@@ -24,7 +24,7 @@ ghost use Rattle.terminal.specs.Texts.{Gives};
 pub extern "C" fn lachsbrille_read(p: &[u8], table: &mut [Record], value: &mut usize) -> u32
     ensures { λ r. ⌜ Says (readOf (now (p .entry)) (length (now (table .entry)))) r (now (value .exit)) × (now (table .exit) ≡ recordsAfter (now (p .entry)) (now (table .entry))) ⌝ }
 {
-    if p.len() <= 12288 {
+    if p.len() <= 12276 {
         return pools::read_short(p, table, value);
     }
     pools::read_long(p, table, value)
@@ -40,7 +40,7 @@ pub extern "C" fn lachsbrille_check(
 ) -> u32
     ensures { λ r. ⌜ Says (checkOf (now (p .entry)) (length (now (table .entry)))) r (now (value .exit)) × (now (table .exit) ≡ recordsAfter (now (p .entry)) (now (table .entry))) × (now (faults .exit) ≡ faultsAfter (now (p .entry)) (length (now (table .entry))) (now (faults .entry))) ⌝ }
 {
-    if p.len() <= 12288 {
+    if p.len() <= 12276 {
         return pools::check_short(p, table, faults, value);
     }
     pools::check_long(p, table, faults, value)
@@ -65,7 +65,7 @@ pub extern "C" fn lachsbrille_text(
 ) -> u32
     ensures { λ r. ⌜ Gives (now (p .entry)) (length (now (table .entry))) id r (now (from .exit)) (now (to .exit)) × (now (table .exit) ≡ recordsAfter (now (p .entry)) (now (table .entry))) ⌝ }
 {
-    if p.len() <= 12288 {
+    if p.len() <= 12276 {
         return pools::text_short(p, table, id, from, to);
     }
     pools::text_long(p, table, id, from, to)
@@ -76,7 +76,7 @@ pub extern "C" fn lachsbrille_text(
 pub extern "C" fn lachsbrille_labels(p: &[u8], table: &mut [Record]) -> DeviceLabels
     ensures { λ r. ⌜ Labelled (now (p .entry)) (length (now (table .entry))) r × (now (table .exit) ≡ recordsAfter (now (p .entry)) (now (table .entry))) ⌝ }
 {
-    if p.len() <= 12288 {
+    if p.len() <= 12276 {
         return device_pool::labels_short(p, table);
     }
     device_pool::labels_long(p, table)

@@ -1,5 +1,5 @@
 // What the C functions over the table are made of. A pool is looked at once, with a list of its records' starts; the answer goes out as
-// numbers, and the table is filled by that list. There is a list for a pool of at most 12,288 bytes, and one for every pool: a record has
+// numbers, and the table is filled by that list. There is a list for a pool of at most 12,276 bytes, and one for every pool: a record has
 // at least 12 bytes, and the end of the last stands behind the starts.
 use client::ClientSession;
 use client::ClientStep;
@@ -149,10 +149,10 @@ pub fn activate_told(
 
 // Each of them over the table, by a list of either length.
 pub fn read_short(p: &[u8], table: &mut [Record], value: &mut usize) -> u32
-    requires { ⌜ length (now p) ≤ 12288 ⌝ }
+    requires { ⌜ length (now p) ≤ 12276 ⌝ }
     ensures { λ r. ⌜ Says (readOf (now (p .entry)) (length (now (table .entry)))) r (now (value .exit)) × (now (table .exit) ≡ recordsAfter (now (p .entry)) (now (table .entry))) ⌝ }
 {
-    let mut starts = [0u16; 1025];
+    let mut starts = [0u16; 1024];
     let told = read_told(p, table.len(), &mut starts, value);
     working_table::gather(p, &starts, told_records(told), table);
     told_number(told)
@@ -168,10 +168,10 @@ pub fn read_long(p: &[u8], table: &mut [Record], value: &mut usize) -> u32
 }
 
 pub fn check_short(p: &[u8], table: &mut [Record], faults: &mut [u16], value: &mut usize) -> u32
-    requires { ⌜ length (now p) ≤ 12288 ⌝ }
+    requires { ⌜ length (now p) ≤ 12276 ⌝ }
     ensures { λ r. ⌜ Says (checkOf (now (p .entry)) (length (now (table .entry)))) r (now (value .exit)) × (now (table .exit) ≡ recordsAfter (now (p .entry)) (now (table .entry))) × (now (faults .exit) ≡ faultsAfter (now (p .entry)) (length (now (table .entry))) (now (faults .entry))) ⌝ }
 {
-    let mut starts = [0u16; 1025];
+    let mut starts = [0u16; 1024];
     let told = check_told(p, table.len(), &mut starts, faults, value);
     working_table::gather(p, &starts, told_records(told), table);
     told_number(told)
@@ -187,10 +187,10 @@ pub fn check_long(p: &[u8], table: &mut [Record], faults: &mut [u16], value: &mu
 }
 
 pub fn text_short(p: &[u8], table: &mut [Record], id: u16, from: &mut usize, to: &mut usize) -> u32
-    requires { ⌜ length (now p) ≤ 12288 ⌝ }
+    requires { ⌜ length (now p) ≤ 12276 ⌝ }
     ensures { λ r. ⌜ Gives (now (p .entry)) (length (now (table .entry))) id r (now (from .exit)) (now (to .exit)) × (now (table .exit) ≡ recordsAfter (now (p .entry)) (now (table .entry))) ⌝ }
 {
-    let mut starts = [0u16; 1025];
+    let mut starts = [0u16; 1024];
     let told = text_told(p, table.len(), &mut starts, id, from, to);
     working_table::gather(p, &starts, told_records(told), table);
     told_number(told)
@@ -214,10 +214,10 @@ pub fn judge_short(
     value: i32,
     error: &mut u8,
 ) -> u32
-    requires { ⌜ length (now p) ≤ 12288 ⌝ }
+    requires { ⌜ length (now p) ≤ 12276 ⌝ }
     ensures { λ r. ⌜ (r ≡ judgeNumber (now (p .entry)) (length (now (table .entry))) element) × (now (error .exit) ≡ judgeError (now (p .entry)) (length (now (table .entry))) command element ddi value) × (now (table .exit) ≡ judgedRecords (now (p .entry)) (now (table .entry)) element) ⌝ }
 {
-    let mut starts = [0u16; 1025];
+    let mut starts = [0u16; 1024];
     let told = judge_told(
         p,
         table.len(),

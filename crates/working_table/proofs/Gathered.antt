@@ -1,14 +1,14 @@
 -- A table filled from a pool: a list of the records' starts gives the table after reading. Assumes nothing.
-use mathlib.Core.Path.{_≡_, refl, sym, ap, _∙_}
+use mathlib.Core.Path.{_≡_, refl, sym, ap, subst, _∙_}
 use mathlib.Core.List.{List, [], _∷_, map}
 use Prim.Native.Nat.{ℕ, zero, suc, _+_, _≤_, _<_}
 use native.Mathlib.Decide.{decLt}
-use native.Mathlib.Numerals.{add-one}
 use native.Mathlib.Omega.{arith}
-use borrow.Author.Tests.{lt-ltb, le-ltb, eq-eqb, ne-eqb}
-use lib.ListN.{length, getD, set, take, drop, length-set}
+use borrow.Author.Tests.{eq-eqb, ne-eqb}
+use lib.ListN.{length, getD, set, take, drop, length-set, length-take}
 use lib.Seq.{sets, getD-take, length-take-le, take-take, take-nil}
 use Rattle.wire.specs.Bytes.{numberAt}
+use Rattle.records.specs.Layout.{markNumber, markOf, three}
 use Rattle.records.specs.Places.{idOf}
 use Rattle.pool.specs.Answer.{Answer, answer, answerOf, recordsIn}
 use Rattle.pool.specs.Reading.{Entry, entryAt, Scan, records, scanOf, entriesIn, readOf}
@@ -16,19 +16,14 @@ use Rattle.pool.specs.Walk.{entriesOf, Divided, Listed}
 use Rattle.pool.specs.declared.Outcome.{Outcome}
 use Rattle.pool.specs.declared.Outcome.the-variants.{Records, Empty, TooLong, NoMark, Cut, LengthOver, TooMany, TableShort}
 use Rattle.pool.proofs.Judged.{read-counted}
-use Rattle.pool.proofs.Starts.{entries-long, entry-at, starts-within}
+use Rattle.pool.proofs.Starts.{entries-long, entry-at, starts-stretch, starts-marked}
 use Rattle.working_table.specs.declared.Record.{Record}
-use Rattle.working_table.specs.Table.{recordOf, blank, recordsAfter}
-use Rattle.working_table.specs.Rows.{rowIn, gathered}
+use Rattle.working_table.specs.Table.{recordOf, recordsAfter}
+use Rattle.working_table.specs.Rows.{rowIn, gathered, Stands, Fillable}
 
--- the entry of record i where the list reaches so far, and where it does not
-pub row-there : (p starts : List ℕ) (i : ℕ) → suc i < length starts → rowIn p starts i ≡ recordOf (entryAt p (getD starts i 0) (getD starts (suc i) 0))
+pub row-is : (p starts : List ℕ) (i : ℕ) → rowIn p starts i ≡ recordOf (entryAt p (getD starts i 0) (getD starts (suc i) 0))
 unfolding rowIn
-row-there p starts i h = rw (lt-ltb (suc i) (length starts) h)
-
-pub row-past : (p starts : List ℕ) (i : ℕ) → length starts ≤ suc i → rowIn p starts i ≡ blank
-unfolding rowIn
-row-past p starts i h = rw (le-ltb (suc i) (length starts) h)
+row-is p starts i = refl
 
 pub gathered-none : (p starts : List ℕ) (table : List Record) → gathered p starts 0 table ≡ table
 unfolding gathered
@@ -59,10 +54,29 @@ gathers p starts table (e ∷ es) i rows =
     ∙ gathers p starts table es (suc i) next
     ∙ ap (λ (l : List Record). sets l (suc i) (map recordOf es)) (gathered-next p starts i table ∙ ap (set (gathered p starts i table) i) (sym (ap (rowIn p starts) here) ∙ rows 0 (omega arith)))
 
--- the first n entries are filled, of as many as the table has, and then it is the table after reading
+-- the first n entries can be filled, and the table is then the one after reading
 pub record Gathers (p starts : List ℕ) (n : ℕ) (table : List Record) : Type 0 where
-  pub within : n ≤ length table
+  pub fillable : Fillable p starts n table
   pub after : gathered p starts n table ≡ recordsAfter p table
+
+-- filling no entries asks nothing of the list
+pub none-fillable : (p starts : List ℕ) (n : ℕ) (table : List Record) → n ≡ 0 → Fillable p starts n table
+none-fillable p starts n table none = record { room = omega arith; stands = λ i l. absurd (omega arith) }
+
+-- each record of a list that divides the pool can be read
+divided-stands : (p starts : List ℕ) (n : ℕ) → n < length starts → Divided p (take (n + 1) starts) → (i : ℕ) → i < n → Stands p starts i
+divided-stands p starts n h d i l =
+    let t : List ℕ = take (n + 1) starts in
+    let long : length t ≡ n + 1 = length-take-le (n + 1) starts (omega arith) in
+    let at : getD t i 0 ≡ getD starts i 0 = getD-take (n + 1) starts i 0 (omega arith) in
+    let end : getD t (suc i) 0 ≡ getD starts (suc i) 0 = getD-take (n + 1) starts (suc i) 0 (omega arith) in
+    let s = starts-stretch p t d i (omega arith) in
+    record {
+      listed = omega arith;
+      rises = omega (arith, s .later);
+      within = omega (arith, s .later, s .within);
+      marked = subst (λ (k : ℕ). markNumber (markOf (three p k)) ≡ 0 → ⊥) at (starts-marked p t d i (omega arith));
+    }
 
 -- a list that divides the pool gives the entries that reading does
 laid : (p starts : List ℕ) (n : ℕ) (table : List Record) → n < length starts → Divided p (take (n + 1) starts) → gathered p starts n table ≡ sets table 0 (map recordOf (entriesIn (scanOf p)))
@@ -72,7 +86,7 @@ laid p starts n table h d =
     let long : length t ≡ n + 1 = length-take-le (n + 1) starts (omega arith) in
     let count : n ≡ 0 + length es = omega (arith, entries-long p t) in
     ap (λ (k : ℕ). gathered p starts k table) count
-    ∙ gathers p starts table es 0 (λ k l. let here : 0 + k ≡ k = omega arith in ap (rowIn p starts) here ∙ row-there p starts k (omega (arith, entries-long p t))
+    ∙ gathers p starts table es 0 (λ k l. let here : 0 + k ≡ k = omega arith in ap (rowIn p starts) here ∙ row-is p starts k
     ∙ sym (ap recordOf (entry-at p t none k (omega (arith, entries-long p t)) ∙ ap (λ (a : ℕ). entryAt p a (getD t (suc k) 0)) (getD-take (n + 1) starts k 0 (omega (arith, entries-long p t))) ∙ ap (entryAt p (getD starts k 0)) (getD-take (n + 1) starts (suc k) 0 (omega (arith, entries-long p t))))))
     ∙ ap (λ (l : List Record). sets l 0 (map recordOf es)) (gathered-none p starts table)
     ∙ ap (λ (s : Scan). sets table 0 (map recordOf (entriesIn s))) (sym (d .divides))
@@ -89,50 +103,48 @@ listed-gathers p starts n table listed counted refused = go (decLt 0 (readOf p (
         let c : readOf p (length table) .value ≡ n = sym (counted e) in
         let same : answer 0 n ≡ readOf p (length table) = ap (answer 0) (sym c) ∙ ap (λ (k : ℕ). answer k (readOf p (length table) .value)) (sym e) in
         record {
-          within = read-counted p (length table) n same .fits;
+          fillable = record { room = read-counted p (length table) n same .fits; stands = divided-stands p starts n (rw c at (l .0)) (rw c at (l .1)) };
           after = rw (eq-eqb (readOf p (length table) .number) 0 e) (laid p starts n table (rw c at (l .0)) (rw c at (l .1)));
         }
     go (yes h) =
         let z : readOf p (length table) .number ≡ 0 → ⊥ = λ e. omega arith in
-        record { within = omega (arith, refused z); after = rw (ne-eqb (readOf p (length table) .number) 0 z) (ap (λ (k : ℕ). gathered p starts k table) (refused z) ∙ gathered-none p starts table) }
+        record { fillable = none-fillable p starts n table (refused z); after = rw (ne-eqb (readOf p (length table) .number) 0 z) (ap (λ (k : ℕ). gathered p starts k table) (refused z) ∙ gathered-none p starts table) }
 
--- each record that is counted lies within the pool
-pub listed-within : (p starts : List ℕ) (n room : ℕ) → Listed p room starts → (readOf p room .number ≡ 0 → n ≡ readOf p room .value) → ((readOf p room .number ≡ 0 → ⊥) → n ≡ 0) → (i : ℕ) → i < n → getD starts i 0 + 12 ≤ length p
-unfolding Listed
-listed-within p starts n room listed counted refused i h = go (decLt 0 (readOf p room .number))
-  where
-    go : Dec (0 < readOf p room .number) → getD starts i 0 + 12 ≤ length p
-    go (no x) =
-        let e : readOf p room .number ≡ 0 = omega arith in
-        let l = listed e in
-        let m : ℕ = readOf p room .value in
-        let long : length (take (m + 1) starts) ≡ m + 1 = length-take-le (m + 1) starts (omega (arith, l .0)) in
-        omega (arith, counted e, starts-within p (take (m + 1) starts) (l .1) i (omega (arith, counted e)), getD-take (m + 1) starts i 0 (omega (arith, counted e)))
-    go (yes x) = let none = refused (λ e. omega arith) in absurd (omega arith)
+-- a table can be filled from more bytes than the pool's, and is the same: only bytes of the pool are read
+part-of : (w k a : ℕ) (s : List ℕ) → k + w ≤ a → take w (drop k (take a s)) ≡ take w (drop k s)
+part-of w zero a s h = take-take w a s (omega arith)
+part-of w (suc k) a [] h = ap (λ (l : List ℕ). take w (drop (suc k) l)) (take-nil a)
+part-of w (suc k) zero (x ∷ s) h = absurd (omega arith)
+part-of w (suc k) (suc a) (x ∷ s) h = part-of w k a s (omega arith)
 
--- so a table that is filled from more bytes than the pool's is the same
-entry-part : (a : ℕ) (s : List ℕ) (at end : ℕ) → at + 12 ≤ a → entryAt (take a s) at end ≡ entryAt s at end
+three-part : (a : ℕ) (s : List ℕ) (at : ℕ) → at + 5 ≤ a → three (take a s) at ≡ three s at
+three-part a s at h = rw (getD-take a s at 0 (omega arith), getD-take a s (at + 1) 0 (omega arith), getD-take a s (at + 2) 0 (omega arith))
+
+entry-part : (a : ℕ) (s : List ℕ) (at end : ℕ) → at + 5 ≤ a → entryAt (take a s) at end ≡ entryAt s at end
 unfolding idOf numberAt
-entry-part a s at end h =
-    rw (getD-take a s at 0 (omega arith), getD-take a s (at + 1) 0 (omega arith), getD-take a s (at + 2) 0 (omega arith), part-of 2 (at + 3) a s (omega arith))
-  where
-    part-of : (w k a : ℕ) (s : List ℕ) → k + w ≤ a → take w (drop k (take a s)) ≡ take w (drop k s)
-    part-of w zero a s h = take-take w a s (omega arith)
-    part-of w (suc k) a [] h = ap (λ (l : List ℕ). take w (drop (suc k) l)) (take-nil a)
-    part-of w (suc k) zero (x ∷ s) h = absurd (omega arith)
-    part-of w (suc k) (suc a) (x ∷ s) h = part-of w k a s (omega arith)
+entry-part a s at end h = rw (three-part a s at h, part-of 2 (at + 3) a s (omega arith))
 
-pub gathered-part : (a : ℕ) (s starts : List ℕ) (n : ℕ) (table : List Record) → ((i : ℕ) → i < n → getD starts i 0 + 12 ≤ a) → gathered s starts n table ≡ gathered (take a s) starts n table
-unfolding gathered
-gathered-part a s starts zero table within = refl
-gathered-part a s starts (suc n) table within =
-    ap (λ (l : List Record). set l n (rowIn s starts n)) (gathered-part a s starts n table (λ i h. within i (omega arith)))
-    ∙ ap (set (gathered (take a s) starts n table) n) (row-part (decLt (suc n) (length starts)))
-  where
-    row-part : Dec (suc n < length starts) → rowIn s starts n ≡ rowIn (take a s) starts n
-    row-part (yes h) =
-        row-there s starts n h ∙ sym (row-there (take a s) starts n h ∙ ap recordOf (entry-part a s (getD starts n 0) (getD starts (suc n) 0) (within n (omega arith))))
-    row-part (no h) = row-past s starts n (omega arith) ∙ sym (row-past (take a s) starts n (omega arith))
+module _ (a : ℕ) (s starts : List ℕ) where
+  in-part : (i : ℕ) → Stands (take a s) starts i → getD starts i 0 + 5 ≤ a
+  in-part i x = omega (arith, x .within, length-take a s)
+
+  stands-part : (i : ℕ) → Stands (take a s) starts i → Stands s starts i
+  stands-part i x = record {
+    listed = x .listed;
+    rises = x .rises;
+    within = omega (arith, x .within, length-take a s);
+    marked = subst (λ (l : List ℕ). markNumber (markOf l) ≡ 0 → ⊥) (three-part a s (getD starts i 0) (in-part i x)) (x .marked);
+  }
+
+  pub fillable-part : (n : ℕ) (table : List Record) → Fillable (take a s) starts n table → Fillable s starts n table
+  fillable-part n table x = record { room = x .room; stands = λ i l. stands-part i (x .stands i l) }
+
+  pub gathered-part : (n : ℕ) (table : List Record) → ((i : ℕ) → i < n → Stands (take a s) starts i) → gathered s starts n table ≡ gathered (take a s) starts n table
+  unfolding gathered
+  gathered-part zero table stands = refl
+  gathered-part (suc n) table stands =
+      ap (λ (l : List Record). set l n (rowIn s starts n)) (gathered-part n table (λ i h. stands i (omega arith)))
+      ∙ ap (set (gathered (take a s) starts n table) n) (row-is s starts n ∙ sym (row-is (take a s) starts n ∙ ap recordOf (entry-part a s (getD starts n 0) (getD starts (suc n) 0) (in-part n (stands n (omega arith))))))
 
 -- what reading answers says how many entries are filled
 pub outcome-counts : (r : Outcome) → answerOf r .number ≡ 0 → recordsIn r ≡ answerOf r .value

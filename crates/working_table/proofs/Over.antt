@@ -40,7 +40,7 @@ pub use Rattle.filling.proofs.Calls.{POwn, pool-copied, copied-behind}
 pub use Rattle.filling.proofs.Carried.{Carried, struct-of, enum-of, uint-of}
 pub use Rattle.filling.proofs.Law.{lines, list-typed, pool-slot, slice-cell, fills-table}
 pub use Rattle.filling.proofs.First.{made, over}
-pub use Rattle.working_table.specs.Rows.{gathered}
+pub use Rattle.working_table.specs.Rows.{gathered, Fillable}
 pub use Rattle.working_table.proofs.Rec.{R}
 pub use Rattle.working_table.proofs.Sizes.{Size, short, long}
 use lib.Dec.{lit<}
@@ -111,20 +111,20 @@ module _ {M : Type 1} (𝓤 : URA M) (H : Heap 𝓤) (𝓜 : Model 𝓤 H) (𝓖
     fm = fmOf 𝓤 H (W .laws) (tablesOf 𝓤 H 𝓜 (tables 𝓤 H 𝓜 𝓡 env))
 
     pub fills-over : (Tells : (κs : Lfts (suc (suc m))) → List ℕ → ℕ → Denots (typesAt (X .slots) κs) → D .row .Denot → List ℕ → Outs κs (X .slots) (X .kept) → Type 0) (countOf : D .row .Denot → ℕ) (answers : D .row .Denot → T .row .Denot → Type 0) (s : Size 𝓤) (#core #count #answer : Name) (ls : List Line) → f .body ≡ code ls
-        → Coded-so 𝓤 H (𝓖 .A) R D T m (X .slots) (X .kept) (s .asks) Says Reaches Tells countOf answers gathered W C Λ fm (s .numbers) (X .holds) f #core #count gather-def.name #answer ls
-        → Core-so 𝓤 H (𝓖 .A) R D T m (X .slots) (X .kept) (s .asks) Says Reaches Tells countOf answers gathered W C Λ fm (s .numbers) (X .holds) #core
+        → Coded-so 𝓤 H (𝓖 .A) R D T m (X .slots) (X .kept) (s .asks) Says Reaches Tells countOf answers Fillable gathered W C Λ fm (s .numbers) (X .holds) f #core #count gather-def.name #answer ls
+        → Core-so 𝓤 H (𝓖 .A) R D T m (X .slots) (X .kept) (s .asks) Says Reaches Tells countOf answers Fillable gathered W C Λ fm (s .numbers) (X .holds) #core
         → Triple 𝓤 (C #count) (Unary 𝓤 H (𝓖 .A) (D .row) usize (λ d n. n ≡ countOf d)) → Triple 𝓤 (C #answer) (Unary 𝓤 H (𝓖 .A) (D .row) (T .row) answers) → env gather-def.name ≡ gather-def.routine
-        → Right 𝓤 H (𝓖 .A) R D T m (X .slots) (X .kept) (s .asks) Says Reaches Tells countOf answers gathered → Triple 𝓤 (C name) (Over (s .asks))
+        → Right 𝓤 H (𝓖 .A) R D T m (X .slots) (X .kept) (s .asks) Says Reaches Tells countOf answers Fillable gathered → Triple 𝓤 (C name) (Over (s .asks))
     fills-over Tells countOf answers s #core #count #answer ls same coded core count answer calls-gather right =
         entered 𝓤 H (Over (s .asks)) C Λ name f closed
-        (fills-first 𝓤 H (𝓖 .A) R D T m (X .slots) (X .kept) (s .asks) Says Reaches Tells countOf answers gathered W C Λ fm (s .numbers) (X .holds) f #core #count gather-def.name #answer ls same coded (s .room) (X .tells) (s .reaches) core count answer
+        (fills-first 𝓤 H (𝓖 .A) R D T m (X .slots) (X .kept) (s .asks) Says Reaches Tells countOf answers Fillable gathered W C Λ fm (s .numbers) (X .holds) f #core #count gather-def.name #answer ls same coded (s .room) (X .tells) (s .reaches) core count answer
         (cited 𝓤 H (tripleOf 𝓤 H (𝓖 .A) gather.signature (gather.spec 𝓤 H (𝓖 .A) (𝓜 .mem) (𝓡 .run))) 𝓜 𝓡 env gather-def.name gather-def.routine calls-gather (gather-thm.met 𝓤 H 𝓜 𝓖 𝓡)) right)
 
-    pub picks-over : (k : ℕ) (#short #long : Name) (ls₁ ls₂ : List Line) → f .body ≡ choice (suc k) (suc (suc k)) 1 12288 ls₁ ls₂
+    pub picks-over : (k : ℕ) (#short #long : Name) (ls₁ ls₂ : List Line) → f .body ≡ choice (suc k) (suc (suc k)) 1 12276 ls₁ ls₂
         → ((κs : Lfts (suc (suc m))) (qs : Shares (suc (suc m))) (a : Args (passing (suc (suc m)) (over R m (X .slots)) (T .row)) κs) → Are (typesAt (over R m (X .slots)) κs) (Ises (typesAt (over R m (X .slots)) κs)) a (valss (typesAt (over R m (X .slots)) κs) (spells (typesAt (over R m (X .slots)) κs) (slice-cell, (slice-cell, X .holds κs))) a)
-        → Hands-on 𝓤 H (𝓖 .A) T (suc (suc m)) (over R m (X .slots)) (yes, (yes, X .kept)) Says W C Λ fm (λ κs. (slice-cell, (slice-cell, X .holds κs))) κs qs a f #short #long 12288 (suc k) (suc (suc k)) 1 (named 0) imm (tyInt w8) ls₁ ls₂ (a .0 .ptr .0) (a .0 .ptr .1) (length (a .0 .now)))
+        → Hands-on 𝓤 H (𝓖 .A) T (suc (suc m)) (over R m (X .slots)) (yes, (yes, X .kept)) Says W C Λ fm (λ κs. (slice-cell, (slice-cell, X .holds κs))) κs qs a f #short #long 12276 (suc k) (suc (suc k)) 1 (named 0) imm (tyInt w8) ls₁ ls₂ (a .0 .ptr .0) (a .0 .ptr .1) (length (a .0 .now)))
         → Triple 𝓤 (C #short) (Over (short 𝓤 .asks)) → Triple 𝓤 (C #long) (Over (long 𝓤 .asks)) → Triple 𝓤 (C name) (Over (long 𝓤 .asks))
     picks-over k #short #long ls₁ ls₂ same coded known-short known-long =
         entered 𝓤 H (Over (long 𝓤 .asks)) C Λ name f closed
-        (picks 𝓤 H (𝓖 .A) T (suc (suc m)) (over R m (X .slots)) (yes, (yes, X .kept)) Says W C Λ fm (λ κs. (slice-cell, (slice-cell, X .holds κs))) f #short #long 12288 (suc k) (suc (suc k)) 1 (named 0) imm (tyInt w8) ls₁ ls₂ (λ κs a. (a .0 .ptr .0, a .0 .ptr .1, length (a .0 .now)))
+        (picks 𝓤 H (𝓖 .A) T (suc (suc m)) (over R m (X .slots)) (yes, (yes, X .kept)) Says W C Λ fm (λ κs. (slice-cell, (slice-cell, X .holds κs))) f #short #long 12276 (suc k) (suc (suc k)) 1 (named 0) imm (tyInt w8) ls₁ ls₂ (λ κs a. (a .0 .ptr .0, a .0 .ptr .1, length (a .0 .now)))
         same (record { fits = lit< tt }) (λ κs. (shr-slice-tells (named 0) (κs .0) u8, (mut-slice-tells (named 1) (κs .1 .0) R, X .tells κs))) coded known-short known-long)

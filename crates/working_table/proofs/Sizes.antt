@@ -1,4 +1,4 @@
--- The two lengths of a list of starts: 1,025 numbers reach for every record of a pool of at most 12,288 bytes, and 5,462 for those of
+-- The two lengths of a list of starts: 1,024 numbers reach for every record of a pool of at most 12,276 bytes, and 5,462 for those of
 -- every pool, since a record has at least 12 bytes. Assumes nothing.
 use Prim.Native.Nat.{ℕ, _*_, _≤_, _<_}
 use native.Mathlib.Omega.{arith}
@@ -27,11 +27,11 @@ enough n p h short = let l = h short in omega (arith, length-replicate {A = ℕ}
 
 abbrev pub short : {M : Type 1} (𝓤 : URA M) → Size 𝓤
 short 𝓤 = record {
-  numbers = 1025;
+  numbers = 1024;
   fits = record { fits = lit< tt };
   room = (lit< tt, lit< tt);
-  asks = λ p. fact 𝓤 (length p ≤ 12288);
-  reaches = λ p. fact-mono 𝓤 _ _ (λ few. enough 1025 p (λ h. omega arith));
+  asks = λ p. fact 𝓤 (length p ≤ 12276);
+  reaches = λ p. fact-mono 𝓤 _ _ (λ few. enough 1024 p (λ h. omega arith));
 }
 
 abbrev pub long : {M : Type 1} (𝓤 : URA M) → Size 𝓤

@@ -3,12 +3,12 @@
 use pool::Outcome;
 use records::view;
 ghost use mathlib.Core.Path.{_≡_};
-ghost use Prim.Native.Nat.{_-_, _≤_};
+ghost use Prim.Native.Nat.{_≤_};
 ghost use lib.ListN.{length};
 ghost use Rattle.pool.specs.Answer.{answerOf};
 ghost use Rattle.pool.specs.Reading.{readOf};
-ghost use Rattle.working_table.specs.Table.{blank, recordsAfter, Reads};
-ghost use Rattle.working_table.specs.Rows.{rowAfter, spreadOver, rowIn, gathered};
+ghost use Rattle.working_table.specs.Table.{recordsAfter, Reads};
+ghost use Rattle.working_table.specs.Rows.{rowAfter, spreadOver, rowIn, gathered, Stands, Fillable};
 
 // An entry of the table. The kind is its number: 1 DVC, 2 DET, 3 DPD, 4 DPT, 5 DVP.
 #[repr(C)]
@@ -44,51 +44,25 @@ pub fn spread(table: &[Record], rows: &mut [u16])
     }
 }
 
-// An entry of zeros.
-fn zeros() -> Record
-    ensures { λ r. ⌜ r ≡ blank ⌝ }
-{
-    Record {
-        start: 0,
-        length: 0,
-        kind: 0,
-        id: 0,
-    }
-}
-
-// How far one place lies behind another, 0 where it lies before it.
-fn length_between(start: u16, end: u16) -> u16
-    ensures { λ r. ⌜ r ≡ end - start ⌝ }
-{
-    if end < start {
-        return 0;
-    }
-    end - start
-}
-
-// The entry of record i, which ends where the next one starts. It is of zeros where the list does not reach so far.
+// The entry of record i, which ends where the next one starts. Whoever calls knows that the record can be read, so nothing is tested.
 fn row_at(p: &[u8], starts: &[u16], i: usize) -> Record
+    requires { ⌜ Stands (now p) (now starts) i ⌝ }
     ensures { λ r. ⌜ r ≡ rowIn (now (p .entry)) (now (starts .entry)) i ⌝ }
 {
-    if starts.len() < 2 {
-        return zeros();
-    }
-    if starts.len() - 2 < i {
-        return zeros();
-    }
     let start = starts[i];
     let end = starts[i + 1];
     Record {
         start,
-        length: length_between(start, end),
-        kind: view::kind(p, start),
-        id: view::id(p, start),
+        length: end - start,
+        kind: view::kind_number(p, start),
+        id: wire::pair(p, start as usize + 3),
     }
 }
 
-// Fills the first so many entries from the pool, by a list of its records' starts. Later entries stay.
+// Fills the first so many entries from the pool, by a list of its records' starts. Later entries stay. The function that made the list
+// has shown that the table has so many entries and that each record can be read.
 pub fn gather(p: &[u8], starts: &[u16], count: usize, table: &mut [Record])
-    requires { ⌜ count ≤ length (now table) ⌝ }
+    requires { ⌜ Fillable (now p) (now starts) count (now table) ⌝ }
     ensures { λ _. ⌜ now (table .exit) ≡ gathered (now (p .entry)) (now (starts .entry)) count (now (table .entry)) ⌝ }
 {
     let mut i = 0usize;
@@ -108,12 +82,12 @@ fn same(outcome: Outcome) -> Outcome
 
 // Reading lists the records by their starts in the one walk over the pool, then fills the table by that list. A list with room for
 // every pool takes long to clear, so a short pool gets a short one. A record takes at least 12 bytes, and the end of the last stands
-// behind the starts: 1,025 numbers are enough for 12,288 bytes, and 5,462 for every pool.
+// behind the starts: 1,024 numbers are enough for 12,276 bytes, and 5,462 for every pool.
 fn read_short(p: &[u8], table: &mut [Record]) -> Outcome
-    requires { ⌜ length (now p) ≤ 12288 ⌝ }
+    requires { ⌜ length (now p) ≤ 12276 ⌝ }
     ensures { λ r. ⌜ Reads (now (p .entry)) r (now (table .entry)) (now (table .exit)) ⌝ }
 {
-    let mut starts = [0u16; 1025];
+    let mut starts = [0u16; 1024];
     let outcome = pool::list_for(p, table.len(), &mut starts);
     gather(p, &starts, pool::records_of(outcome), table);
     same(outcome)
@@ -132,7 +106,7 @@ fn read_long(p: &[u8], table: &mut [Record]) -> Outcome
 pub fn read(p: &[u8], table: &mut [Record]) -> Outcome
     ensures { λ r. ⌜ (answerOf r ≡ readOf (now (p .entry)) (length (now (table .entry)))) × (now (table .exit) ≡ recordsAfter (now (p .entry)) (now (table .entry))) ⌝ }
 {
-    if p.len() <= 12288 {
+    if p.len() <= 12276 {
         return read_short(p, table);
     }
     read_long(p, table)

@@ -1,6 +1,6 @@
 -- `activation::activate` meets its contract: it fills the table by the list of `activate_in`. The table is the last parameter, and the
 -- pool the first part of the second. Assumes nothing.
-use Rattle.working_table.proofs.Over.{_≡_, refl, sym, subst, [], _∷_, length, replicate, fullShare, emp, fact, factI, givenOf, tables, tripleOf, cited, named, imm, mut, w8, tyInt, mutSliceOf, plain, u8, shr-slice-tells, mut-slice-tells, yes, has, slice-cell, lends-on, struct-of, lines, list-typed, R, long, POwn, pool-slot, copied-behind, pool-copied, fills-table, gathered}
+use Rattle.working_table.proofs.Over.{_≡_, refl, sym, subst, [], _∷_, length, replicate, fullShare, emp, fact, factI, givenOf, tables, tripleOf, cited, named, imm, mut, w8, tyInt, mutSliceOf, plain, u8, shr-slice-tells, mut-slice-tells, yes, has, slice-cell, lends-on, struct-of, lines, list-typed, R, long, POwn, pool-slot, copied-behind, pool-copied, fills-table, gathered, Fillable}
 use contract.Running.{tablesOf}
 use sound.WpLaws.{fmOf}
 use lib.ListN.{take}
@@ -51,7 +51,7 @@ activate-spec 𝓤 H 𝓜 𝓖 𝓡 =
     (λ κs a. emp 𝓤) (λ κs a. this.clauses 𝓤 H A (𝓜 .mem) (𝓡 .run) κs a .ensures tt) (λ κs a zs. Reaches zs (take (a .0 .announced) (a .1 .0 .now)))
     (λ κs a d w zs ws. (stepOf (d .step) ≡ activateOf (a .0) (a .1 .0 .now) (length (a .1 .1 .0 .now)) (length (a .1 .1 .1 .0 .now))) × (w .1 .1 .0 ≡ keptAfter (a .0) (a .1 .0 .now) (a .1 .1 .0 .now) (length (a .1 .1 .1 .0 .now)))
     × (d .records ≡ recordsFor (a .0) (a .1 .0 .now) (length (a .1 .1 .0 .now)) (length (a .1 .1 .1 .0 .now))) × ListsFor (a .0) (a .1 .0 .now) (length (a .1 .1 .0 .now)) (length (a .1 .1 .1 .0 .now)) zs)
-    (λ d. d .records) (λ d r. r ≡ d .step) (λ κs a. a .1 .0) gathered
+    (λ d. d .records) (λ d r. r ≡ d .step) (λ κs a. a .1 .0) Fillable gathered
     code.function core-def.name count-def.name gather-def.name answer-def.name (lines R R′.mir 4 4 2 2 0 (lends-on 7 8 3 (named 1) mut (tyInt w8) (tyInt w8) ∷ []) [] (1 ∷ 2 ∷ 8 ∷ []) [] (2 ∷ []) core-def.name count-def.name gather-def.name answer-def.name 5462) refl
     (λ κs qs a are l₀ l₁ l₂ l₃ l₄ l₅ l₆ l₇ l₈ l₉ l₁₀ l₁₁ l₁₂ l₁₃ l₁₄ l₁₅ l₁₆. (
       ((tt, LL.lawful S.the-type S′.the-laws 𝓤 H A W .typed (a .0) _ (are .0) .0), ((tt, (tt, (tt, (record { fits = are .1 .0 .0 .1 .0 }, tt)))), ((tt, (tt, (tt, (record { fits = are .1 .1 .0 .0 .1 .0 }, tt)))), ((tt, (tt, (tt, (record { fits = are .1 .1 .1 .0 .0 .1 .0 }, tt)))), tt)))),
@@ -67,4 +67,4 @@ activate-spec 𝓤 H 𝓜 𝓖 𝓡 =
     (λ κs qs a. let kept-own = fsep (MutSlice (named 1) (κs .1 .0) u8 .own (a .1 .1 .0) (sliceVal (a .1 .1 .0 .ptr) (length (a .1 .1 .0 .now)) ∷ [])) ftrue in
     copied-behind 𝓤 H A W (S.the-row .own (a .0) (LL.val S.the-type S′.the-laws (a .0) ∷ [])) (POwn (κs .0) (a .1 .0)) (fsep (POwn (κs .0) (a .1 .0)) kept-own) ftrue (pool-copied 𝓤 H A W (κs .0) (a .1 .0) kept-own ftrue))
     (λ κs qs a d w e φ. let so = records-filled (w .1 .1 .1 .1 .0) (d .records) (a .1 .1 .1 .0 .now) (a .0) (a .1 .0 .now) (length (a .1 .1 .0 .now)) (φ .2) (φ .3) in
-    (so .within, λ r f. factI 𝓤 _ (emp 𝓤) (subst (λ x. stepOf x ≡ activateOf (a .0) (a .1 .0 .now) (length (a .1 .1 .0 .now)) (length (a .1 .1 .1 .0 .now))) (sym f) (φ .0), φ .1, so .same))))
+    (so .fillable, λ r f. factI 𝓤 _ (emp 𝓤) (subst (λ x. stepOf x ≡ activateOf (a .0) (a .1 .0 .now) (length (a .1 .1 .0 .now)) (length (a .1 .1 .1 .0 .now))) (sym f) (φ .0), φ .1, so .same))))

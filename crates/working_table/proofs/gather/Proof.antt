@@ -47,7 +47,7 @@ use denote.Triple.Walked.{says, needs, Stays, stay-slice, stay-none-slice, stay-
 use denote.Exit.{yes}
 use Rattle.working_table.specs.declared.Record.{Record}
 use Rattle.working_table.specs.Table.{blank}
-use Rattle.working_table.specs.Rows.{rowIn, gathered}
+use Rattle.working_table.specs.Rows.{rowIn, gathered, Stands, Fillable}
 use Rattle.working_table.proofs.Record.Laws as T′
 use Rattle.working_table.proofs.Rec.{R, vals, tells, makes, typed, typed-at, place-rec, in-room}
 use Rattle.working_table.proofs.Loop.{while-test, up-to, up-wf, at-end}
@@ -135,16 +135,16 @@ module _ {M : Type 1} (𝓤 : URA M) (H : Heap 𝓤) (A : Atoms 𝓤) (W : Given
   abbrev to-row : ℕ → Row 𝓤 H A mem run .Ghost
   to-row i = (((κ₀, (κ, tt)), (q₀, (q, tt)), tt, (x₀, (x′, (i, tt))), (p-val ∷ [], (s-val ∷ [], (vint w64 i ∷ [], tt)))), tt)
 
-  asked-row : (i : ℕ) → i < 2 ^ 64 → ent 𝓤 (sep 𝓤 (A .lft κ₀ q₀) (sep 𝓤 (A .lft κ q) (sep 𝓤 (sem 𝓤 H A POwn) (sem 𝓤 H A Own)))) (Row 𝓤 H A mem run .pre (to-row i))
-  asked-row i fits =
-      qed W (‵ (flft κ₀ q₀) ∷ ‵ (flft κ q) ∷ ‵ POwn ∷ ‵ Own ∷ []) ∵ nothing ! $ move ! (2 ∷ 0 ∷ []) $ join ! $ move ! (1 ∷ 0 ∷ []) $ join ! $
-      nothing ! $ owned ! usize (Is usize) (uint-makes 𝓤 H A W w64) i _ (refl, fits) $ fjoin ! $ move ! (3 ∷ 0 ∷ []) $ fjoin ! $ move ! (2 ∷ 0 ∷ []) $ fjoin ! $ move ! (1 ∷ 0 ∷ []) $ join ! $ frame ! $ done !
+  asked-row : (i : ℕ) → i < 2 ^ 64 → Stands p starts i → ent 𝓤 (sep 𝓤 (A .lft κ₀ q₀) (sep 𝓤 (A .lft κ q) (sep 𝓤 (sem 𝓤 H A POwn) (sem 𝓤 H A Own)))) (Row 𝓤 H A mem run .pre (to-row i))
+  asked-row i fits stands =
+      qed W (‵ (flft κ₀ q₀) ∷ ‵ (flft κ q) ∷ ‵ POwn ∷ ‵ Own ∷ []) ∵ says ! stands $ nothing ! $ move ! (2 ∷ 0 ∷ []) $ join ! $ move ! (1 ∷ 0 ∷ []) $ join ! $ frame ! $
+      nothing ! $ owned ! usize (Is usize) (uint-makes 𝓤 H A W w64) i _ (refl, fits) $ fjoin ! $ move ! (2 ∷ 0 ∷ []) $ fjoin ! $ move ! (1 ∷ 0 ∷ []) $ fjoin ! $ done !
 
   said-row : (i : ℕ) (r : Record) → ent 𝓤 (ensured 𝓤 H A row-fn.ended (row-fn.clauses 𝓤 H A mem run) (κ₀, (κ, tt)) (x₀, (x′, (i, tt))) tt r) (fact 𝓤 (r ≡ rowIn p starts i))
   said-row i r = exE 𝓤 _ (λ ws. snd∗ 𝓤 (sem 𝓤 H A (lasts row-fn.ended (κ₀, (κ, tt)) (x₀, (x′, (i, tt))) ws)) (fact 𝓤 (r ≡ rowIn p starts i)))
 
   module _ (𝓣 : Tables 𝓤 H) (fm : FmC 𝓤 H (W .laws) (𝓣 .C)) (known-row : Triple 𝓤 (𝓣 .C #row) (Row 𝓤 H A mem run))
-      (room : Room R (length ys)) (n-fits : n < 2 ^ 64) (in-t : n ≤ length ys) (l₀ l₁ l₂ l₃ l₄ l₅ l₆ l₇ l₈ l₉ : ℕ) where
+      (room : Room R (length ys)) (n-fits : n < 2 ^ 64) (fillable : Fillable p starts n ys) (l₀ l₁ l₂ l₃ l₄ l₅ l₆ l₇ l₈ l₉ : ℕ) where
     abbrev C : Calls 𝓤 H
     C = 𝓣 .C
 
@@ -179,13 +179,13 @@ module _ {M : Type 1} (𝓤 : URA M) (H : Heap 𝓤) (A : Atoms 𝓤) (W : Given
         assigns ! (bin ! (load ! (from ! (stop !)) (look ! 16 refl)) (load ! (from ! (stop !)) (look ! 20 refl)) tt) (from ! (stop !)) (init ! 14 refl (tt, tt)) $
         while-test ! (load ! (from ! (stop !)) (look ! 14 refl))
         (λ h. let less : i < n = ltb→lt i n h in
-        let at-i : i < length ws = omega (arith, gathered-length p starts i ys) in
+        let at-i : i < length ws = omega (arith, fillable .room, gathered-length p starts i ys) in
         let i-fits : i < 2 ^ 64 = omega arith in
         let fits-next : i + 1 < 2 ^ 64 = omega arith in
-        let place-fits = in-room i (length ys) room (omega arith) in
+        let place-fits = in-room i (length ys) room (omega (arith, fillable .room)) in
         -- the call: both slices are Copy, and one copy of what each owns is passed
         move ! (5 ∷ []) $ use1 W (‵ Own ⊛ ‵ Own) (shr-slice-copy 𝓤 H A W (named 1) κ u16 .twice x′ (s-val ∷ [])) $ split ! $ move ! (8 ∷ []) $ use1 W (‵ POwn ⊛ ‵ POwn) (shr-slice-copy 𝓤 H A W (named 0) κ₀ u8 .twice x₀ (p-val ∷ [])) $ split ! $
-        move ! (0 ∷ 2 ∷ []) $ join ! $ move ! (8 ∷ 7 ∷ 0 ∷ []) $ use3 W (raw (Row 𝓤 H A mem run .pre (to-row i))) (asked-row i i-fits) $
+        move ! (0 ∷ 2 ∷ []) $ join ! $ move ! (8 ∷ 7 ∷ 0 ∷ []) $ use3 W (raw (Row 𝓤 H A mem run .pre (to-row i))) (asked-row i i-fits (fillable .stands i less)) $
         -- [the callee's pre; POwn; Own; row; obor; obs; auth; _9 at 7; _8 9; _7 11; _6 13; _5 15; _4 17; _3 19; _2 21; _1 23; _0 25]
         calls-at ! fm (Row 𝓤 H A mem run) known-row (to-row i) (and-then ! (load ! (from ! (stop !)) (look ! 23 refl)) (and-then ! (load ! (from ! (stop !)) (look ! 21 refl)) (and-then ! (load ! (from ! (stop !)) (look ! 15 refl)) (no-more !)))) (λ w.
         use1 W (later (some (λ (r : Record). ((‵ (flft κ₀ q₀) ⊛ ‵ (flft κ q) ⊛ ‵ ftrue) ⊛ ‵ (R .own r (w ∷ []))) ⊛ raw (ensured 𝓤 H A row-fn.ended (row-fn.clauses 𝓤 H A mem run) (κ₀, (κ, tt)) (x₀, (x′, (i, tt))) tt r)))) (id⊢ 𝓤 _) $ await ! tt $ pick ! (λ r.
@@ -217,9 +217,9 @@ module _ {M : Type 1} (𝓤 : URA M) (H : Heap 𝓤) (A : Atoms 𝓤) (W : Given
         move ! (11 ∷ 12 ∷ []) $ free1 ! $ move ! (9 ∷ 10 ∷ []) $ free1 ! $ move ! (7 ∷ 8 ∷ []) $ free1 ! $ free0 ! $
         keep ! (0 ∷ 1 ∷ 2 ∷ 3 ∷ 4 ∷ 5 ∷ 6 ∷ []) $ by ! (exits room n-fits))
 
-  walk : (𝓣 : Tables 𝓤 H) → FmC 𝓤 H (W .laws) (𝓣 .C) → Triple 𝓤 (𝓣 .C #row) (Row 𝓤 H A mem run) → Room u8 (length p) → Room u16 (length starts) → n < 2 ^ 64 → Room R (length ys) → n ≤ length ys
+  walk : (𝓣 : Tables 𝓤 H) → FmC 𝓤 H (W .laws) (𝓣 .C) → Triple 𝓤 (𝓣 .C #row) (Row 𝓤 H A mem run) → Room u8 (length p) → Room u16 (length starts) → n < 2 ^ 64 → Room R (length ys) → Fillable p starts n ys
       → ent 𝓤 (onEntry 𝓤 H A gather.signature (κ₀, (κ, (κ′, tt))) (q₀, (q, (q′, tt))) a at) (WpFn 𝓤 H (𝓣 .C) (𝓣 .Λ) code.function (p-val ∷ s-val ∷ vint w64 n ∷ t-val ∷ []) Post)
-  walk 𝓣 fm known-row room₀ room′ n-fits room within =
+  walk 𝓣 fm known-row room₀ room′ n-fits room fillable =
       qed W ((‵ (flft κ₀ q₀) ⊛ ‵ (flft κ q) ⊛ ‵ (flft κ′ q′) ⊛ ‵ ftrue) ∷ ‵ (owns (ShrSlice (named 0) κ₀ u8 ∷ ShrSlice (named 1) κ u16 ∷ usize ∷ MutSlice (named 2) κ′ R ∷ []) a at) ∷ []) ∵
       enter ! (𝓣 .C) (𝓣 .Λ) code.function (p-val ∷ s-val ∷ vint w64 n ∷ t-val ∷ []) _ $
       alloc1 ! (λ l₀. alloc1 ! (λ l₁. alloc1 ! (λ l₂. alloc1 ! (λ l₃. alloc1 ! (λ l₄. alloc1 ! (λ l₅. alloc1 ! (λ l₆. alloc1 ! (λ l₇. alloc1 ! (λ l₈. alloc1 ! (λ l₉. alloc0 ! $ params1 ! $
@@ -230,13 +230,13 @@ module _ {M : Type 1} (𝓤 : URA M) (H : Heap 𝓤) (A : Atoms 𝓤) (W : Given
       -- [row; obor; obs; auth; true; the list's token; the pool's; true; Own; POwn; _9 at 10; …]
       rewrite ! 0 (λ (l : List Record). ‵ (row R fullShare l b o)) (sym (gathered-none p starts ys)) refl $
       keep ! (0 ∷ 1 ∷ 2 ∷ 3 ∷ 5 ∷ 8 ∷ 6 ∷ 9 ∷ 10 ∷ 11 ∷ 12 ∷ 13 ∷ 14 ∷ 15 ∷ 16 ∷ 17 ∷ 18 ∷ 19 ∷ 20 ∷ 21 ∷ 22 ∷ 23 ∷ 24 ∷ 25 ∷ 26 ∷ 27 ∷ 28 ∷ 29 ∷ []) $ first ! $ blocks ! $
-      loops ! 𝓣 (up-to n (λ (u : (i : ℕ) × (i ≤ n)). u .0)) (up-wf n (λ (u : (i : ℕ) × (i ≤ n)). u .0)) (I 𝓣 fm known-row room n-fits within l₀ l₁ l₂ l₃ l₄ l₅ l₆ l₇ l₈ l₉)
-      (turn 𝓣 fm known-row room n-fits within l₀ l₁ l₂ l₃ l₄ l₅ l₆ l₇ l₈ l₉) (0, zero-le)))))))))))
+      loops ! 𝓣 (up-to n (λ (u : (i : ℕ) × (i ≤ n)). u .0)) (up-wf n (λ (u : (i : ℕ) × (i ≤ n)). u .0)) (I 𝓣 fm known-row room n-fits fillable l₀ l₁ l₂ l₃ l₄ l₅ l₆ l₇ l₈ l₉)
+      (turn 𝓣 fm known-row room n-fits fillable l₀ l₁ l₂ l₃ l₄ l₅ l₆ l₇ l₈ l₉) (0, zero-le)))))))))))
 
 module _ {M : Type 1} (𝓤 : URA M) (H : Heap 𝓤) (A : Atoms 𝓤) (W : Given 𝓤 H A) (mem : Memory → SProp 𝓤) (run : Routine → Fun 𝓤) where
   gather-walks : (𝓣 : Tables 𝓤 H) → Triple 𝓤 (𝓣 .C #row) (Row 𝓤 H A mem run) → Walks 𝓤 H A gather.ended stayed (WpFn 𝓤 H (𝓣 .C) (𝓣 .Λ) code.function) (gather.clauses 𝓤 H A mem run)
   gather-walks 𝓣 known-row = walked 𝓤 H A gather.ended stayed (gather.clauses 𝓤 H A mem run) (WpFn 𝓤 H (𝓣 .C) (𝓣 .Λ) code.function) (λ κs. (slice-vals, (slice-vals, (uint-vals w64, (slice-vals, tt))))) (λ κs. (shr-slice-tells (named 0) (κs .0) u8, (shr-slice-tells (named 1) (κs .1 .0) u16, (uint-tells w64, (mut-slice-tells (named 2) (κs .1 .1 .0) R, tt)))))
-      (λ κs qs bounds a g are. needs 𝓤 (a .1 .1 .0 ≤ length (a .1 .1 .1 .0 .now)) _
+      (λ κs qs bounds a g are. needs 𝓤 (Fillable (a .0 .now) (a .1 .0 .now) (a .1 .1 .0) (a .1 .1 .1 .0 .now)) _
       (walk 𝓤 H A W mem run (κs .0) (κs .1 .0) (κs .1 .1 .0) (qs .0) (qs .1 .0) (qs .1 .1 .0) (a .0) (a .1 .0) (a .1 .1 .0) (a .1 .1 .1 .0 .ptr .0) (a .1 .1 .1 .0 .ptr .1) (a .1 .1 .1 .0 .name) (a .1 .1 .1 .0 .now) 𝓣 (fmOf 𝓤 H (W .laws) 𝓣) known-row (are .0 .0 .1) (are .1 .0 .0 .1) (are .1 .1 .0 .1) (are .1 .1 .1 .0 .0 .1)))
 
 gather-meets : {M : Type 1} (𝓤 : URA M) (H : Heap 𝓤) (A : Atoms 𝓤) → Given 𝓤 H A → (mem : Memory → SProp 𝓤) (run : Routine → Fun 𝓤) (𝓣 : Tables 𝓤 H) → Triple 𝓤 (𝓣 .C #row) (Row 𝓤 H A mem run)
