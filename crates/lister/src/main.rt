@@ -4,13 +4,10 @@ use checker::Verdict;
 use libc::STDERR_FILENO;
 use libc::STDIN_FILENO;
 use libc::STDOUT_FILENO;
-use working_table::Record;
-ghost use Prim.Native.Nat.{_+_, _*_, _≤_, _<_};
+use records::view;
+ghost use Prim.Native.Nat.{_-_, _≤_};
 ghost use mathlib.Core.Path.{_≡_};
-ghost use lib.ListN.{length, replicate};
-ghost use Rattle.working_table.specs.Table.{blank, recordsAfter};
-ghost use Rattle.working_table.specs.Rows.{spreadOver};
-ghost use Rattle.checker.specs.Checking.{verdictOf, recordsIn, checkOf, countOf, faultsAfter};
+ghost use lib.ListN.{length};
 
 // What was read, 0 bytes at the end of the input.
 enum Input {
@@ -69,21 +66,38 @@ fn make_room(out: &[u8], at: usize) -> usize {
     0
 }
 
-// The line of each record of a table that has been filled.
-fn list_records(table: &[u16], count: usize, out: &mut [u8], from: usize) -> usize
+// How far one place lies behind another, 0 where it lies before it.
+fn length_between(start: u16, end: u16) -> u16
+    ensures { λ r. ⌜ r ≡ end - start ⌝ }
+{
+    if end < start {
+        return 0;
+    }
+    end - start
+}
+
+// The line of each record, by a list of their starts: each ends where the next one starts.
+fn list_records(p: &[u8], starts: &[u16], count: usize, out: &mut [u8], from: usize) -> usize
     ensures { λ r. ⌜ length (now (out .exit)) ≡ length (now (out .entry)) ⌝ }
 {
     let mut at = from;
     let mut i: usize = 0;
-    let mut left = count;
-    while 0 < left {
-        if table.len() - i < 4 {
+    while i < count {
+        if starts.len() - i < 2 {
             return at;
         }
+        let start = starts[i];
+        let length = length_between(start, starts[i + 1]);
         at = make_room(out, at);
-        at = listing::put_record(out, at, table[i], table[i + 1], table[i + 2], table[i + 3]);
-        i += 4;
-        left -= 1;
+        at = listing::put_record(
+            out,
+            at,
+            start,
+            length,
+            view::kind(p, start),
+            view::id(p, start),
+        );
+        i += 1;
     }
     at
 }
@@ -118,32 +132,19 @@ fn list_findings(faults: &[u16], count: usize, out: &mut [u8], from: usize) -> u
     list_faults(faults, count, out, from)
 }
 
-// Checks a pool with a table of 2,048 entries, which it gives as numbers, four for an entry: so the table is held in this
-// function alone.
-fn check_listing(p: &[u8], rows: &mut [u16], faults: &mut [u16]) -> Verdict
-    ensures { λ r. ⌜ (verdictOf r ≡ checkOf (now (p .entry)) 2048) × (recordsIn r ≡ countOf (now (p .entry)) 2048) × (now (faults .exit) ≡ faultsAfter (now (p .entry)) 2048 (now (faults .entry))) × (now (rows .exit) ≡ spreadOver (recordsAfter (now (p .entry)) (replicate 2048 blank)) 2048 (now (rows .entry))) ⌝ }
+// Lists a pool into lent memory and to standard output, as for a table of 2,048 entries. The records are listed by their starts, in a
+// list that reaches for those of every pool.
+fn list(p: &[u8], starts: &mut [u16], faults: &mut [u16], out: &mut [u8])
+    requires { ⌜ length (now starts) ≡ 5462 ⌝ }
+    ensures { λ _. ⌜ length (now (out .exit)) ≡ length (now (out .entry)) ⌝ }
 {
-    let blank = Record {
-        start: 0,
-        length: 0,
-        kind: 0,
-        id: 0,
-    };
-    let mut table = [blank; 2048];
-    let verdict = checker::check(p, &mut table, faults);
-    working_table::spread(&table, rows);
-    verdict
-}
-
-// Lists a pool into lent memory and to standard output.
-fn list(p: &[u8], table: &mut [u16], faults: &mut [u16], out: &mut [u8]) {
-    let verdict = check_listing(p, table, faults);
+    let verdict = checker::check_by(p, 2048, starts, faults);
     if let Verdict::Checked {
         records,
         faults: found,
     } = verdict {
         let first = listing::put_records(out, 0, records as u64);
-        let next = list_records(table, records, out, first);
+        let next = list_records(p, starts, records, out, first);
         let end = list_findings(faults, found, out, next);
         flush(out, end);
         return;
@@ -157,12 +158,15 @@ fn list(p: &[u8], table: &mut [u16], faults: &mut [u16], out: &mut [u8]) {
     flush(out, end);
 }
 
-fn run(input: &mut [u8], table: &mut [u16], faults: &mut [u16], out: &mut [u8]) {
+fn run(input: &mut [u8], starts: &mut [u16], faults: &mut [u16], out: &mut [u8])
+    requires { ⌜ length (now starts) ≡ 5462 ⌝ }
+    ensures { λ _. ⌜ length (now (out .exit)) ≡ length (now (out .entry)) ⌝ }
+{
     let got = read_input(input);
     match got {
         Input::Bytes(n) => {
             if n <= input.len() {
-                list(&input[0..n], table, faults, out);
+                list(&input[0..n], starts, faults, out);
             }
         }
         Input::Failed => {
@@ -171,12 +175,11 @@ fn run(input: &mut [u8], table: &mut [u16], faults: &mut [u16], out: &mut [u8]) 
     }
 }
 
-// One byte more than a pool may have shows that an input is too long; the table has 2,048 entries, and
-// the buffer of faults 1,024.
+// One byte more than a pool may have shows that an input is too long. The buffer of faults has 1,024 entries.
 fn main() {
     let mut input = [0u8; 65536];
-    let mut table = [0u16; 8192];
+    let mut starts = [0u16; 5462];
     let mut faults = [0u16; 3072];
     let mut out = [0u8; 65536];
-    run(&mut input, &mut table, &mut faults, &mut out);
+    run(&mut input, &mut starts, &mut faults, &mut out);
 }

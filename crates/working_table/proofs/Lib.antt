@@ -1,8 +1,6 @@
 -- What belongs to no one function.
 pub mod Rec
 pub mod Loop
-pub mod Again
-pub mod Rows
 pub mod Gathered
 pub mod Sizes
 pub mod Over

@@ -8,7 +8,7 @@ ghost use lib.ListN.{length};
 ghost use Rattle.pool.specs.Answer.{answerOf};
 ghost use Rattle.pool.specs.Reading.{readOf};
 ghost use Rattle.working_table.specs.Table.{recordsAfter, Reads};
-ghost use Rattle.working_table.specs.Rows.{rowAfter, spreadOver, rowIn, gathered, Stands, Fillable};
+ghost use Rattle.working_table.specs.Rows.{rowIn, gathered, Stands, Fillable};
 
 // An entry of the table. The kind is its number: 1 DVC, 2 DET, 3 DPD, 4 DPT, 5 DVP.
 #[repr(C)]
@@ -17,31 +17,6 @@ pub struct Record {
     pub length: u16,
     pub kind: u16,
     pub id: u16,
-}
-
-// Writes an entry as four numbers: start, length, kind, ID. An entry that does not fit is left out.
-fn put_row(rows: &mut [u16], i: usize, r: Record)
-    ensures { λ _. ⌜ now (rows .exit) ≡ rowAfter (now (rows .entry)) i r ⌝ }
-{
-    if i < rows.len() / 4 {
-        let at = i * 4;
-        rows[at] = r.start;
-        rows[at + 1] = r.length;
-        rows[at + 2] = r.kind;
-        rows[at + 3] = r.id;
-    }
-}
-
-// Writes a table as numbers, four for an entry, as far as they fit: for callers that have no use for references to structs.
-pub fn spread(table: &[Record], rows: &mut [u16])
-    ensures { λ _. ⌜ now (rows .exit) ≡ spreadOver (now (table .entry)) (length (now (table .entry))) (now (rows .entry)) ⌝ }
-{
-    let mut i = 0usize;
-    while i < table.len() {
-        let r = table[i];
-        put_row(rows, i, r);
-        i += 1;
-    }
 }
 
 // The entry of record i, which ends where the next one starts. Whoever calls knows that the record can be read, so nothing is tested.

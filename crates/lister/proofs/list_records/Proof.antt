@@ -1,6 +1,6 @@
 -- `lister::list_records` meets its contract. Assumes nothing.
 use mathlib.Core.Path.{_≡_, refl, _∙_}
-use Prim.Native.Nat.{_≤_}
+use Prim.Native.Nat.{_-_, _≤_}
 use native.Mathlib.Omega.{arith}
 use borrow.Author.Needs.{needs}
 use lib.ListN.{length}
@@ -8,10 +8,10 @@ use Rattle.lister.proofs.list_records.Statement.{statement}
 use Rattle.lister.proofs.list_records.Tie as tie
 
 abbrev Inv-loop : tie.InvT-loop
-Inv-loop table count out₀ from at₀ i₀ left₀ out at i left = (i ≤ length table) × (length out ≡ length out₀)
+Inv-loop p starts count out₀ from at₀ i₀ out at i = (i ≤ length starts) × (length out ≡ length out₀)
 
 abbrev μ-loop : tie.MeasureT-loop
-μ-loop table count out₀ from at₀ i₀ left₀ out at i left = left
+μ-loop p starts count out₀ from at₀ i₀ out at i = count - i
 
 loop-holds : tie.Need-loop-holds Inv-loop μ-loop
 loop-holds c = (omega arith, refl)
@@ -25,41 +25,32 @@ same-length c = c .before .before .loop .inv .1
 returns : tie.Need-returns Inv-loop μ-loop
 returns c = c .before .before .loop .inv .1
 
+mul-start : tie.Need-mul-start Inv-loop μ-loop
+mul-start c = search needs
+
+shared-slice-read-start : tie.Need-shared-slice-read-start Inv-loop μ-loop
+shared-slice-read-start c = search needs
+
+add-length-between : tie.Need-add-length-between Inv-loop μ-loop
+add-length-between c = search needs
+
+mul-length-between : tie.Need-mul-length-between Inv-loop μ-loop
+mul-length-between c = search needs
+
+shared-slice-read-length-between : tie.Need-shared-slice-read-length-between Inv-loop μ-loop
+shared-slice-read-length-between c = search needs
+
+length-between-requires : tie.Need-length-between-requires Inv-loop μ-loop
+length-between-requires c κs = search needs
+
 make-room-requires : tie.Need-make-room-requires Inv-loop μ-loop
 make-room-requires c κs = search needs
 
-mul-put-record : tie.Need-mul-put-record Inv-loop μ-loop
-mul-put-record c = search needs
+kind-requires : tie.Need-kind-requires Inv-loop μ-loop
+kind-requires c κs = search needs
 
-shared-slice-read-put-record : tie.Need-shared-slice-read-put-record Inv-loop μ-loop
-shared-slice-read-put-record c = search needs
-
-add-put-record : tie.Need-add-put-record Inv-loop μ-loop
-add-put-record c = search needs
-
-mul-put-record-2 : tie.Need-mul-put-record-2 Inv-loop μ-loop
-mul-put-record-2 c = search needs
-
-shared-slice-read-put-record-2 : tie.Need-shared-slice-read-put-record-2 Inv-loop μ-loop
-shared-slice-read-put-record-2 c = search needs
-
-add-put-record-2 : tie.Need-add-put-record-2 Inv-loop μ-loop
-add-put-record-2 c = search needs
-
-mul-put-record-3 : tie.Need-mul-put-record-3 Inv-loop μ-loop
-mul-put-record-3 c = search needs
-
-shared-slice-read-put-record-3 : tie.Need-shared-slice-read-put-record-3 Inv-loop μ-loop
-shared-slice-read-put-record-3 c = search needs
-
-add-put-record-3 : tie.Need-add-put-record-3 Inv-loop μ-loop
-add-put-record-3 c = search needs
-
-mul-put-record-4 : tie.Need-mul-put-record-4 Inv-loop μ-loop
-mul-put-record-4 c = search needs
-
-shared-slice-read-put-record-4 : tie.Need-shared-slice-read-put-record-4 Inv-loop μ-loop
-shared-slice-read-put-record-4 c = search needs
+id-requires : tie.Need-id-requires Inv-loop μ-loop
+id-requires c κs = search needs
 
 put-record-requires : tie.Need-put-record-requires Inv-loop μ-loop
 put-record-requires c κs = search needs
@@ -67,14 +58,11 @@ put-record-requires c κs = search needs
 add-i : tie.Need-add-i Inv-loop μ-loop
 add-i c = search needs
 
-sub-left : tie.Need-sub-left Inv-loop μ-loop
-sub-left c = search needs
-
 loop-less : tie.Need-loop-less Inv-loop μ-loop
-loop-less c = omega arith
+loop-less c = omega (arith, c .before .before .before .before .before .before .before .before .before .before .before .before .loop-test .taken)
 
 loop-again : tie.Need-loop-again Inv-loop μ-loop
-loop-again c = (omega arith, c .before .before .put-record .ensures ∙ c .before .before .before .before .before .before .before .before .before .before .before .before .loop .inv .1)
+loop-again c = (omega (arith, c .before .before .before .before .before .before .before .before .before .before .before .if1 .left), c .before .before .put-record .ensures ∙ c .before .before .before .before .before .before .before .before .before .before .before .before .before .loop .inv .1)
 
 same-length-2 : tie.Need-same-length-2 Inv-loop μ-loop
 same-length-2 c = c .before .loop .inv .1
@@ -92,21 +80,17 @@ list-records-spec =
     sub-if1
     same-length
     returns
+    mul-start
+    shared-slice-read-start
+    add-length-between
+    mul-length-between
+    shared-slice-read-length-between
+    length-between-requires
     make-room-requires
-    mul-put-record
-    shared-slice-read-put-record
-    add-put-record
-    mul-put-record-2
-    shared-slice-read-put-record-2
-    add-put-record-2
-    mul-put-record-3
-    shared-slice-read-put-record-3
-    add-put-record-3
-    mul-put-record-4
-    shared-slice-read-put-record-4
+    kind-requires
+    id-requires
     put-record-requires
     add-i
-    sub-left
     loop-less
     loop-again
     same-length-2
