@@ -14,11 +14,11 @@
  * Stack. The most bytes that a call takes, whatever pool, table or other memory it is lent:
  *
  *     read                 11,100
- *     check                48,800
- *     text                 48,900
- *     labels               49,152
- *     judge                49,100
- *     session_activate     49,000
+ *     check                57,100
+ *     text                 57,200
+ *     labels               57,500
+ *     judge                57,400
+ *     session_activate     57,300
  *     the others              600
  *
  * Refusals. A call gives 0 or a refusal's number; where several apply, the one that stands first in its list below. Unless said

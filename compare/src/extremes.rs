@@ -15,9 +15,9 @@ const ID_HEADS: usize = 8_192;
 /// IDs that have one remainder.
 const IDS_OF_A_REMAINDER: usize = 0x1_0000 / ID_HEADS;
 /// It lists the DDIs of a long list by their remainders by so many.
-const DDI_HEADS: usize = 2_039;
+const DDI_HEADS: usize = 2_048;
 /// DDIs that have one remainder.
-const DDIS_OF_A_REMAINDER: usize = 0xFFFF / DDI_HEADS;
+const DDIS_OF_A_REMAINDER: usize = 0x1_0000 / DDI_HEADS;
 
 pub struct Extreme {
     pub name: &'static str,

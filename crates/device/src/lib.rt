@@ -50,7 +50,7 @@ fn first_with(p: &[u8], starts: &[u16], id: u16) -> u16
     let count = starts.len() - 1;
     let mut i: usize = 0;
     while i < count {
-        if records::view::id(p, starts[i]) == id {
+        if naming::id_at(p, starts, i) == id {
             return (i + 1) as u16;
         }
         i += 1;

@@ -37,7 +37,7 @@ fn walk_links(
     faults: &mut [u16],
     count: usize,
 ) -> Walked
-    requires { ⌜ Names (now p) (now starts) (now heads) (now next) × (length (now tops) ≡ 2039) × Blank (now tops) × (length (now starts) ≤ length (now links)) × Blank (now links) × (size ≤ 32768) × (count < 2 ^ 41) ⌝ }
+    requires { ⌜ Names (now p) (now starts) (now heads) (now next) × (length (now tops) ≡ 2048) × Blank (now tops) × (length (now starts) ≤ length (now links)) × Blank (now links) × (size ≤ 32768) × (count < 2 ^ 41) ⌝ }
     ensures { λ r. ⌜ Puts number (many 12 2 size (doubled (entryTag (now (p .entry)) (entriesOf (now (p .entry)) (now (starts .entry))) at)) ∷ []) (now (faults .entry)) count (now (faults .exit)) (r .n) × (r .n ≤ count + size) × (r .tagged ≡ size → (m : ℕ) → m < size → entryTag (now (p .entry)) (entriesOf (now (p .entry)) (now (starts .entry))) at m ≡ 0 → ⊥) ⌝ }
 {
     let from = views::entries_from(p, at);
@@ -56,7 +56,7 @@ fn walk_links(
             n = faults::put_if(true, faults, n, number, 12, (1 + m) as u16);
             continue 'entries;
         }
-        let b = tag % 2039;
+        let b = tag % 2048;
         let mut k = tops[b];
         while k != 0 {
             if super::ddi_at(p, starts, k) as usize + 1 == tag {
@@ -87,7 +87,7 @@ pub fn walk_long(
     requires { ⌜ Names (now p) (now starts) (now heads) (now next) × (size ≤ 32768) × (count < 2 ^ 41) ⌝ }
     ensures { λ r. ⌜ Puts number (many 12 2 size (doubled (entryTag (now (p .entry)) (entriesOf (now (p .entry)) (now (starts .entry))) at)) ∷ []) (now (faults .entry)) count (now (faults .exit)) (r .n) × (r .n ≤ count + size) × (r .tagged ≡ size → (m : ℕ) → m < size → entryTag (now (p .entry)) (entriesOf (now (p .entry)) (now (starts .entry))) at m ≡ 0 → ⊥) ⌝ }
 {
-    let mut tops = [0u16; 2039];
+    let mut tops = [0u16; 2048];
     let mut links = [0u16; 5462];
     walk_links(
         p,

@@ -21,7 +21,7 @@ fn slot_of(id: u16, heads: usize) -> usize
 }
 
 // The ID of record i.
-fn id_at(p: &[u8], starts: &[u16], i: usize) -> u16
+pub fn id_at(p: &[u8], starts: &[u16], i: usize) -> u16
     requires { ⌜ Divided (now p) (now starts) × (i + 1 < length (now starts)) ⌝ }
     ensures { λ r. ⌜ r ≡ idIn (now (p .entry)) (now (starts .entry)) i ⌝ }
 {

@@ -6,7 +6,6 @@ use lib.ListN.{length}
 use Rattle.pool.specs.Walk.{entriesOf}
 use Rattle.pool.proofs.Starts.{entries-long, starts-few}
 use Rattle.naming.specs.Records.{idAt}
-use Rattle.naming.specs.Lists.{idIn}
 use Rattle.naming.proofs.First.{Without, to-none}
 use Rattle.naming.proofs.Looking.{none-yet, none-more, first-found}
 use Rattle.naming.proofs.Starts.{id-read}
@@ -25,41 +24,33 @@ sub-count c = omega (arith, c .before .before .pre .some)
 loop-holds : tie.Need-loop-holds Inv-loop μ-loop
 loop-holds c = (omega arith, none-yet (idAt (entriesOf (c .before .before .args .p .now) (c .before .before .args .starts .now))) (c .before .before .args .id))
 
-mul-id : tie.Need-mul-id Inv-loop μ-loop
-mul-id c = omega (arith, c .loop-test .taken)
-
-shared-slice-read-id : tie.Need-shared-slice-read-id Inv-loop μ-loop
-shared-slice-read-id c = omega (arith, c .before .loop-test .taken)
-
-id-requires : tie.Need-id-requires Inv-loop μ-loop
-id-requires c κs = tt
+id-at-requires : tie.Need-id-at-requires Inv-loop μ-loop
+id-at-requires c κs = (c .before .before .before .before .pre, omega (arith, c .loop-test .taken))
 
 add-result : tie.Need-add-result Inv-loop μ-loop
-add-result c = omega (arith, c .before .before .before .loop-test .taken, starts-few (c .before .before .before .before .before .before .before .args .p .now) (c .before .before .before .before .before .before .before .args .starts .now) (c .before .before .before .before .before .before .before .pre))
+add-result c = omega (arith, c .before .before .loop-test .taken, starts-few (c .before .before .before .before .before .before .args .p .now) (c .before .before .before .before .before .before .args .starts .now) (c .before .before .before .before .before .before .pre))
 
 cast-result : tie.Need-cast-result Inv-loop μ-loop
-cast-result c = omega (arith, c .before .before .before .loop-test .taken, starts-few (c .before .before .before .before .before .before .before .args .p .now) (c .before .before .before .before .before .before .before .args .starts .now) (c .before .before .before .before .before .before .before .pre))
+cast-result c = omega (arith, c .before .before .loop-test .taken, starts-few (c .before .before .before .before .before .before .args .p .now) (c .before .before .before .before .before .before .args .starts .now) (c .before .before .before .before .before .before .pre))
 
 returns : tie.Need-returns Inv-loop μ-loop
-unfolding idIn
 returns c =
-    let p = c .before .before .before .before .before .before .before .args .p .now in
-    let starts = c .before .before .before .before .before .before .before .args .starts .now in
+    let p = c .before .before .before .before .before .before .args .p .now in
+    let starts = c .before .before .before .before .before .before .args .starts .now in
     let long = entries-long p starts in
-    first-found (idAt (entriesOf p starts)) (c .before .before .before .before .before .before .before .args .id) (length (entriesOf p starts)) (c .before .before .before .before .loop .i) (omega (arith, c .before .before .before .loop-test .taken)) (c .before .before .before .before .loop .inv .1) (id-read p starts (c .before .before .before .before .loop .i) (omega (arith, c .before .before .before .loop-test .taken)) ∙ sym (c .before .id .ensures) ∙ c .if1 .taken)
+    first-found (idAt (entriesOf p starts)) (c .before .before .before .before .before .before .args .id) (length (entriesOf p starts)) (c .before .before .before .loop .i) (omega (arith, c .before .before .loop-test .taken)) (c .before .before .before .loop .inv .1) (id-read p starts (c .before .before .before .loop .i) (omega (arith, c .before .before .loop-test .taken)) ∙ sym (c .before .id-at .ensures) ∙ c .if1 .taken)
 
 add-i : tie.Need-add-i Inv-loop μ-loop
-add-i c = omega (arith, c .before .before .before .loop-test .taken, starts-few (c .before .before .before .before .before .before .before .args .p .now) (c .before .before .before .before .before .before .before .args .starts .now) (c .before .before .before .before .before .before .before .pre))
+add-i c = omega (arith, c .before .before .loop-test .taken, starts-few (c .before .before .before .before .before .before .args .p .now) (c .before .before .before .before .before .before .args .starts .now) (c .before .before .before .before .before .before .pre))
 
 loop-less : tie.Need-loop-less Inv-loop μ-loop
-loop-less c = omega (arith, c .before .before .before .loop-test .taken, entries-long (c .before .before .before .before .before .before .before .args .p .now) (c .before .before .before .before .before .before .before .args .starts .now))
+loop-less c = omega (arith, c .before .before .loop-test .taken, entries-long (c .before .before .before .before .before .before .args .p .now) (c .before .before .before .before .before .before .args .starts .now))
 
 loop-again : tie.Need-loop-again Inv-loop μ-loop
-unfolding idIn
 loop-again c =
-    let p = c .before .before .before .before .before .before .before .args .p .now in
-    let starts = c .before .before .before .before .before .before .before .args .starts .now in
-    (omega (arith, c .before .before .before .loop-test .taken, entries-long p starts), none-more (idAt (entriesOf p starts)) (c .before .before .before .before .before .before .before .args .id) (c .before .before .before .before .loop .i) (c .before .before .before .before .loop .inv .1) (λ e. c .if1 .left (c .before .id .ensures ∙ sym (id-read p starts (c .before .before .before .before .loop .i) (omega (arith, c .before .before .before .loop-test .taken))) ∙ e)))
+    let p = c .before .before .before .before .before .before .args .p .now in
+    let starts = c .before .before .before .before .before .before .args .starts .now in
+    (omega (arith, c .before .before .loop-test .taken, entries-long p starts), none-more (idAt (entriesOf p starts)) (c .before .before .before .before .before .before .args .id) (c .before .before .before .loop .i) (c .before .before .before .loop .inv .1) (λ e. c .if1 .left (c .before .id-at .ensures ∙ sym (id-read p starts (c .before .before .before .loop .i) (omega (arith, c .before .before .loop-test .taken))) ∙ e)))
 
 returns-2 : tie.Need-returns-2 Inv-loop μ-loop
 returns-2 c =
@@ -75,9 +66,7 @@ first-with-spec =
     μ-loop
     sub-count
     loop-holds
-    mul-id
-    shared-slice-read-id
-    id-requires
+    id-at-requires
     add-result
     cast-result
     returns

@@ -30,14 +30,14 @@ below p starts heads next element i h =
 
 abbrev Inv-loop : tie.InvT-loop
 Inv-loop p starts heads next at tops links₀ size number faults₀ count from n₀ tagged m named tag b k₀ links faults n k =
-    (links ≡ links₀) × (faults ≡ faults₀) × (n ≡ n₀) × ((q : ℕ) → m ≡ q + 1 → Walks (entryNamed p (entriesOf p starts) at) (tagOf p (entriesOf p starts)) 2039 q tag k) × (k < length starts)
+    (links ≡ links₀) × (faults ≡ faults₀) × (n ≡ n₀) × ((q : ℕ) → m ≡ q + 1 → Walks (entryNamed p (entriesOf p starts) at) (tagOf p (entriesOf p starts)) 2048 q tag k) × (k < length starts)
 
 abbrev μ-loop : tie.MeasureT-loop
 μ-loop p starts heads next at tops links₀ size number faults₀ count from n₀ tagged m named tag b k₀ links faults n k = place (entryNamed p (entriesOf p starts) at) size k
 
 abbrev Inv-entries : tie.InvT-entries
 Inv-entries p starts heads next at tops₀ links₀ size number faults₀ count from n₀ tagged₀ m₀ tops links faults n tagged m =
-    Linking (entryNamed p (entriesOf p starts) at) (tagOf p (entriesOf p starts)) 2039 number size links₀ faults₀ count tops links faults n tagged m
+    Linking (entryNamed p (entriesOf p starts) at) (tagOf p (entriesOf p starts)) 2048 number size links₀ faults₀ count tops links faults n tagged m
 
 abbrev μ-entries : tie.MeasureT-entries
 μ-entries p starts heads next at tops₀ links₀ size number faults₀ count from n₀ tagged₀ m₀ tops links faults n tagged m = size - m
@@ -49,7 +49,7 @@ entries-holds : tie.Need-entries-holds Inv-loop μ-loop Inv-entries μ-entries
 entries-holds c =
     let a = c .before .before .before .before .before .before .before .before .args in
     let es = entriesOf (a .p .now) (a .starts .now) in
-    link-start (entryNamed (a .p .now) es (a .at)) (tagOf (a .p .now) es) (tag-nothing (a .p .now) es) 2039 (a .number) (a .size) (a .links .now) (a .faults .now) (a .count) (a .tops .now) (omega arith) (c .before .before .before .before .before .before .before .before .pre .1) (c .before .before .before .before .before .before .before .before .pre .2) (c .before .before .before .before .before .before .before .before .pre .4)
+    link-start (entryNamed (a .p .now) es (a .at)) (tagOf (a .p .now) es) (tag-nothing (a .p .now) es) 2048 (a .number) (a .size) (a .links .now) (a .faults .now) (a .count) (a .tops .now) (omega arith) (c .before .before .before .before .before .before .before .before .pre .1) (c .before .before .before .before .before .before .before .before .pre .2) (c .before .before .before .before .before .before .before .before .pre .4)
 
 mul-read-u16 : tie.Need-mul-read-u16 Inv-loop μ-loop Inv-entries μ-entries
 mul-read-u16 c = omega (arith, c .entries-test .taken, c .before .before .before .before .before .before .before .before .before .before .pre .5)
@@ -84,7 +84,7 @@ entries-again c =
     let none = tag-nothing (a .p .now) es in
     let names : c .before .before .named-at .result ≡ entry (v .m) = c .before .before .named-at .ensures ∙ ap (named es) (c .before .before .before .read-u16 .ensures ∙ sym (c .before .before .before .before .before .before .entries-from .ensures .0 (v .m))) in
     let is : c .before .tag-at .result ≡ mark (entry (v .m)) = c .before .tag-at .ensures .0 ∙ ap mark names in
-    link-plain entry mark none 2039 (a .number) (a .size) (a .links .now) (a .faults .now) (a .count) (v .tops) (v .links) (v .faults) (v .n) (v .tagged) (v .m) (c .before .before .before .before .entries-test .taken) (v .inv) (sym is ∙ c .if1 .taken)
+    link-plain entry mark none 2048 (a .number) (a .size) (a .links .now) (a .faults .now) (a .count) (v .tops) (v .links) (v .faults) (v .n) (v .tagged) (v .m) (c .before .before .before .before .entries-test .taken) (v .inv) (sym is ∙ c .if1 .taken)
 
 add-tagged : tie.Need-add-tagged Inv-loop μ-loop Inv-entries μ-entries
 add-tagged c = omega (arith, c .before .before .before .before .before .entries .inv .few, c .before .before .before .before .entries-test .taken, c .before .before .before .before .before .before .before .before .before .before .before .before .before .before .pre .5)
@@ -122,7 +122,7 @@ entries-again-2 c =
     let none = tag-nothing (a .p .now) es in
     let names : c .before .before .before .before .before .before .before .before .named-at .result ≡ entry (v .m) = c .before .before .before .before .before .before .before .before .named-at .ensures ∙ ap (named es) (c .before .before .before .before .before .before .before .before .before .read-u16 .ensures ∙ sym (c .before .before .before .before .before .before .before .before .before .before .before .before .entries-from .ensures .0 (v .m))) in
     let is : c .before .before .before .before .before .before .before .tag-at .result ≡ mark (entry (v .m)) = c .before .before .before .before .before .before .before .tag-at .ensures .0 ∙ ap mark names in
-    link-known entry mark none 2039 (a .number) (a .size) (a .links .now) (a .faults .now) (a .count) (v .tops) (v .links) (v .faults) (v .n) (v .tagged) (v .m) (c .before .before .before .before .before .before .before .before .before .before .entries-test .taken) (v .inv) (c .before .before .before .before .before .before .before .tag-at .result) (sym is) (c .before .before .before .before .before .before .if1 .left) (c .before .before .before .before .before .before .before .before .named-at .result) names (c .before .before .before .before .if2 .taken) (1 + (v .m + 1)) _ _ (omega arith) (c .before .before .put-if .ensures .0)
+    link-known entry mark none 2048 (a .number) (a .size) (a .links .now) (a .faults .now) (a .count) (v .tops) (v .links) (v .faults) (v .n) (v .tagged) (v .m) (c .before .before .before .before .before .before .before .before .before .before .entries-test .taken) (v .inv) (c .before .before .before .before .before .before .before .tag-at .result) (sym is) (c .before .before .before .before .before .before .if1 .left) (c .before .before .before .before .before .before .before .before .named-at .result) names (c .before .before .before .before .if2 .taken) (1 + (v .m + 1)) _ _ (omega arith) (c .before .before .put-if .ensures .0)
 
 mul-k : tie.Need-mul-k Inv-loop μ-loop Inv-entries μ-entries
 mul-k c = omega (arith, mod-lt (c .before .before .before .tag-at .result) (c .before .before .before .before .before .before .before .entries .inv .linked .some))
@@ -138,8 +138,8 @@ loop-holds c =
     let entry : ℕ → ℕ = entryNamed (a .p .now) es (a .at) in
     let mark : ℕ → ℕ = tagOf (a .p .now) es in
     let none = tag-nothing (a .p .now) es in
-    let start = walk-begins entry mark none (v .m) 2039 (v .tops) (v .links) (v .inv .linked) (c .before .before .before .before .tag-at .result) in
-    (refl, refl, refl, λ (q : ℕ) (e : v .m + 1 ≡ q + 1). subst (λ (m : ℕ). Walks entry mark 2039 m (c .before .before .before .before .tag-at .result) (getD (v .tops) (c .before .before .before .before .tag-at .result % 2039) 0)) (omega (arith, e)) start, rw (start .is) (below (a .p .now) (a .starts .now) (a .heads .now) (a .next .now) (a .at) (start .stands) (c .before .before .before .before .before .before .before .before .before .before .before .before .before .before .before .before .before .pre .0)))
+    let start = walk-begins entry mark none (v .m) 2048 (v .tops) (v .links) (v .inv .linked) (c .before .before .before .before .tag-at .result) in
+    (refl, refl, refl, λ (q : ℕ) (e : v .m + 1 ≡ q + 1). subst (λ (m : ℕ). Walks entry mark 2048 m (c .before .before .before .before .tag-at .result) (getD (v .tops) (c .before .before .before .before .tag-at .result % 2048) 0)) (omega (arith, e)) start, rw (start .is) (below (a .p .now) (a .starts .now) (a .heads .now) (a .next .now) (a .at) (start .stands) (c .before .before .before .before .before .before .before .before .before .before .before .before .before .before .before .before .before .pre .0)))
 
 ddi-at-requires : tie.Need-ddi-at-requires Inv-loop μ-loop Inv-entries μ-entries
 ddi-at-requires c κs =
@@ -186,9 +186,9 @@ entries-again-3 c =
     let names : c .before .before .before .before .before .before .before .before .before .before .before .before .before .named-at .result ≡ entry (v .m) = c .before .before .before .before .before .before .before .before .before .before .before .before .before .named-at .ensures ∙ ap (named es) (c .before .before .before .before .before .before .before .before .before .before .before .before .before .before .read-u16 .ensures ∙ sym (c .before .before .before .before .before .before .before .before .before .before .before .before .before .before .before .before .before .entries-from .ensures .0 (v .m))) in
     let is : c .before .before .before .before .before .before .before .before .before .before .before .before .tag-at .result ≡ mark (entry (v .m)) = c .before .before .before .before .before .before .before .before .before .before .before .before .tag-at .ensures .0 ∙ ap mark names in
     let l = c .before .before .before .before .before .before .before .loop in
-    let walks : Walks entry mark 2039 (v .m) (c .before .before .before .before .before .before .before .before .before .before .before .before .tag-at .result) (l .k) = l .inv .3 (v .m) refl in
-    let found : mark (l .k) ≡ c .before .before .before .before .before .before .before .before .before .before .before .before .tag-at .result = omega (arith, tag-ddi (a .p .now) es (l .k) (standing-tagged entry mark none (v .m) 2039 (c .before .before .before .before .before .before .before .before .before .before .before .before .tag-at .result) (l .k) (c .before .before .before .before .before .before .loop-test .taken) walks), c .before .before .before .before .before .ddi-at .ensures, c .before .before .before .before .if3 .taken) in
-    rw (l .inv .0) (link-met entry mark none 2039 (a .number) (a .size) (a .links .now) (a .faults .now) (a .count) (v .tops) (v .links) (v .faults) (v .n) (v .tagged) (v .m) (c .before .before .before .before .before .before .before .before .before .before .before .before .before .before .before .entries-test .taken) (v .inv) (c .before .before .before .before .before .before .before .before .before .before .before .before .tag-at .result) (sym is) (c .before .before .before .before .before .before .before .before .before .before .before .if1 .left) (c .before .before .before .before .before .before .before .before .before .before .before .before .before .named-at .result) names (c .before .before .before .before .before .before .before .before .before .if2 .left) (l .k) 65535 (1 + (v .m + 1)) _ _ (c .before .before .before .before .before .before .loop-test .taken) walks found (omega arith) (rw (← l .inv .1, ← l .inv .2) (c .before .before .put-if2 .ensures .0)))
+    let walks : Walks entry mark 2048 (v .m) (c .before .before .before .before .before .before .before .before .before .before .before .before .tag-at .result) (l .k) = l .inv .3 (v .m) refl in
+    let found : mark (l .k) ≡ c .before .before .before .before .before .before .before .before .before .before .before .before .tag-at .result = omega (arith, tag-ddi (a .p .now) es (l .k) (standing-tagged entry mark none (v .m) 2048 (c .before .before .before .before .before .before .before .before .before .before .before .before .tag-at .result) (l .k) (c .before .before .before .before .before .before .loop-test .taken) walks), c .before .before .before .before .before .ddi-at .ensures, c .before .before .before .before .if3 .taken) in
+    rw (l .inv .0) (link-met entry mark none 2048 (a .number) (a .size) (a .links .now) (a .faults .now) (a .count) (v .tops) (v .links) (v .faults) (v .n) (v .tagged) (v .m) (c .before .before .before .before .before .before .before .before .before .before .before .before .before .before .before .entries-test .taken) (v .inv) (c .before .before .before .before .before .before .before .before .before .before .before .before .tag-at .result) (sym is) (c .before .before .before .before .before .before .before .before .before .before .before .if1 .left) (c .before .before .before .before .before .before .before .before .before .before .before .before .before .named-at .result) names (c .before .before .before .before .before .before .before .before .before .if2 .left) (l .k) 65535 (1 + (v .m + 1)) _ _ (c .before .before .before .before .before .before .loop-test .taken) walks found (omega arith) (rw (← l .inv .1, ← l .inv .2) (c .before .before .put-if2 .ensures .0)))
 
 cast-k : tie.Need-cast-k Inv-loop μ-loop Inv-entries μ-entries
 cast-k c = omega arith
@@ -208,7 +208,7 @@ sub-k c =
     let mark : ℕ → ℕ = tagOf (a .p .now) es in
     let none = tag-nothing (a .p .now) es in
     let l = c .before .before .before .before .loop in
-    rw (l .inv .0) (walk-linked entry mark none (v .m) 2039 (v .tops) (v .links) (v .inv .linked) (c .before .before .before .before .before .before .before .before .before .tag-at .result) (l .k) (c .before .before .before .loop-test .taken) (l .inv .3 (v .m) refl))
+    rw (l .inv .0) (walk-linked entry mark none (v .m) 2048 (v .tops) (v .links) (v .inv .linked) (c .before .before .before .before .before .before .before .before .before .tag-at .result) (l .k) (c .before .before .before .loop-test .taken) (l .inv .3 (v .m) refl))
 
 loop-less : tie.Need-loop-less Inv-loop μ-loop Inv-entries μ-entries
 loop-less c =
@@ -219,7 +219,7 @@ loop-less c =
     let mark : ℕ → ℕ = tagOf (a .p .now) es in
     let none = tag-nothing (a .p .now) es in
     let l = c .before .before .before .before .loop in
-    rw (l .inv .0) (walk-falls entry mark none (v .m) 2039 (v .tops) (v .links) (v .inv .linked) (c .before .before .before .before .before .before .before .before .before .tag-at .result) (l .k) (c .before .before .before .loop-test .taken) (l .inv .3 (v .m) refl) (a .size) (v .inv .within))
+    rw (l .inv .0) (walk-falls entry mark none (v .m) 2048 (v .tops) (v .links) (v .inv .linked) (c .before .before .before .before .before .before .before .before .before .tag-at .result) (l .k) (c .before .before .before .loop-test .taken) (l .inv .3 (v .m) refl) (a .size) (v .inv .within))
 
 loop-again : tie.Need-loop-again Inv-loop μ-loop Inv-entries μ-entries
 loop-again c =
@@ -230,10 +230,10 @@ loop-again c =
     let mark : ℕ → ℕ = tagOf (a .p .now) es in
     let none = tag-nothing (a .p .now) es in
     let l = c .before .before .before .before .loop in
-    let walks : Walks entry mark 2039 (v .m) (c .before .before .before .before .before .before .before .before .before .tag-at .result) (l .k) = l .inv .3 (v .m) refl in
-    let other : mark (l .k) ≡ c .before .before .before .before .before .before .before .before .before .tag-at .result → ⊥ = λ (e : mark (l .k) ≡ c .before .before .before .before .before .before .before .before .before .tag-at .result). c .before .if3 .left (omega (arith, e, tag-ddi (a .p .now) es (l .k) (standing-tagged entry mark none (v .m) 2039 (c .before .before .before .before .before .before .before .before .before .tag-at .result) (l .k) (c .before .before .before .loop-test .taken) walks), c .before .before .ddi-at .ensures)) in
-    let on = walk-goes entry mark none (v .m) 2039 (v .tops) (v .links) (v .inv .linked) (c .before .before .before .before .before .before .before .before .before .tag-at .result) (l .k) (c .before .before .before .loop-test .taken) walks other in
-    (l .inv .0, l .inv .1, l .inv .2, λ (q : ℕ) (e : v .m + 1 ≡ q + 1). rw (l .inv .0) (subst (λ (m : ℕ). Walks entry mark 2039 m (c .before .before .before .before .before .before .before .before .before .tag-at .result) (getD (v .links) (l .k) 0 - 1)) (omega (arith, e)) on), rw (l .inv .0, on .is) (below (a .p .now) (a .starts .now) (a .heads .now) (a .next .now) (a .at) (on .stands) (c .before .before .before .before .before .before .before .before .before .before .before .before .before .before .before .before .before .before .before .before .before .before .pre .0)))
+    let walks : Walks entry mark 2048 (v .m) (c .before .before .before .before .before .before .before .before .before .tag-at .result) (l .k) = l .inv .3 (v .m) refl in
+    let other : mark (l .k) ≡ c .before .before .before .before .before .before .before .before .before .tag-at .result → ⊥ = λ (e : mark (l .k) ≡ c .before .before .before .before .before .before .before .before .before .tag-at .result). c .before .if3 .left (omega (arith, e, tag-ddi (a .p .now) es (l .k) (standing-tagged entry mark none (v .m) 2048 (c .before .before .before .before .before .before .before .before .before .tag-at .result) (l .k) (c .before .before .before .loop-test .taken) walks), c .before .before .ddi-at .ensures)) in
+    let on = walk-goes entry mark none (v .m) 2048 (v .tops) (v .links) (v .inv .linked) (c .before .before .before .before .before .before .before .before .before .tag-at .result) (l .k) (c .before .before .before .loop-test .taken) walks other in
+    (l .inv .0, l .inv .1, l .inv .2, λ (q : ℕ) (e : v .m + 1 ≡ q + 1). rw (l .inv .0) (subst (λ (m : ℕ). Walks entry mark 2048 m (c .before .before .before .before .before .before .before .before .before .tag-at .result) (getD (v .links) (l .k) 0 - 1)) (omega (arith, e)) on), rw (l .inv .0, on .is) (below (a .p .now) (a .starts .now) (a .heads .now) (a .next .now) (a .at) (on .stands) (c .before .before .before .before .before .before .before .before .before .before .before .before .before .before .before .before .before .before .before .before .before .before .pre .0)))
 
 mul-links-2 : tie.Need-mul-links-2 Inv-loop μ-loop Inv-entries μ-entries
 mul-links-2 c = omega (arith, mod-lt (c .before .before .before .before .before .before .tag-at .result) (c .before .before .before .before .before .before .before .before .before .before .entries .inv .linked .some))
@@ -249,7 +249,7 @@ add-links c =
     let entry : ℕ → ℕ = entryNamed (a .p .now) es (a .at) in
     let mark : ℕ → ℕ = tagOf (a .p .now) es in
     let none = tag-nothing (a .p .now) es in
-    let start = walk-begins entry mark none (v .m) 2039 (v .tops) (v .links) (v .inv .linked) (c .before .before .before .before .before .before .before .tag-at .result) in
+    let start = walk-begins entry mark none (v .m) 2048 (v .tops) (v .links) (v .inv .linked) (c .before .before .before .before .before .before .before .tag-at .result) in
     omega (arith, start .is, below (a .p .now) (a .starts .now) (a .heads .now) (a .next .now) (a .at) (start .stands) (c .before .before .before .before .before .before .before .before .before .before .before .before .before .before .before .before .before .before .before .before .pre .0), names-few (a .p .now) (a .starts .now) (a .heads .now) (a .next .now) (c .before .before .before .before .before .before .before .before .before .before .before .before .before .before .before .before .before .before .before .before .pre .0))
 
 cast-links-2 : tie.Need-cast-links-2 Inv-loop μ-loop Inv-entries μ-entries
@@ -283,8 +283,8 @@ entries-again-4 c =
     let names : c .before .before .before .before .before .before .before .before .named-at .result ≡ entry (v .m) = c .before .before .before .before .before .before .before .before .named-at .ensures ∙ ap (named es) (c .before .before .before .before .before .before .before .before .before .read-u16 .ensures ∙ sym (c .before .before .before .before .before .before .before .before .before .before .before .before .entries-from .ensures .0 (v .m))) in
     let is : c .before .before .before .before .before .before .before .tag-at .result ≡ mark (entry (v .m)) = c .before .before .before .before .before .before .before .tag-at .ensures .0 ∙ ap mark names in
     let l = c .before .before .loop in
-    let without = walks-out entry mark none (v .m) 2039 (c .before .before .before .before .before .before .before .tag-at .result) (l .k) (c .before .loop-test .left) (c .before .before .before .before .before .before .if1 .left) (l .inv .3 (v .m) refl) in
-    rw (l .inv .0, l .inv .1, l .inv .2) (link-new entry mark none 2039 (a .number) (a .size) (a .links .now) (a .faults .now) (a .count) (v .tops) (v .links) (v .faults) (v .n) (v .tagged) (v .m) (c .before .before .before .before .before .before .before .before .before .before .entries-test .taken) (v .inv) (c .before .before .before .before .before .before .before .tag-at .result) (sym is) (c .before .before .before .before .before .before .if1 .left) (c .before .before .before .before .before .before .before .before .named-at .result) names without (omega (arith, c .before .before .before .before .before .before .before .before .named-at .ensures, named-inside (a .p .now) (a .starts .now) (a .heads .now) (a .next .now) (c .before .before .before .before .before .before .before .before .before .before .before .before .before .before .before .before .before .before .before .before .pre .0) (c .before .before .before .before .before .before .before .before .before .read-u16 .result), c .before .before .before .before .before .before .before .before .before .before .before .before .before .before .before .before .before .before .before .before .pre .3)))
+    let without = walks-out entry mark none (v .m) 2048 (c .before .before .before .before .before .before .before .tag-at .result) (l .k) (c .before .loop-test .left) (c .before .before .before .before .before .before .if1 .left) (l .inv .3 (v .m) refl) in
+    rw (l .inv .0, l .inv .1, l .inv .2) (link-new entry mark none 2048 (a .number) (a .size) (a .links .now) (a .faults .now) (a .count) (v .tops) (v .links) (v .faults) (v .n) (v .tagged) (v .m) (c .before .before .before .before .before .before .before .before .before .before .entries-test .taken) (v .inv) (c .before .before .before .before .before .before .before .tag-at .result) (sym is) (c .before .before .before .before .before .before .if1 .left) (c .before .before .before .before .before .before .before .before .named-at .result) names without (omega (arith, c .before .before .before .before .before .before .before .before .named-at .ensures, named-inside (a .p .now) (a .starts .now) (a .heads .now) (a .next .now) (c .before .before .before .before .before .before .before .before .before .before .before .before .before .before .before .before .before .before .before .before .pre .0) (c .before .before .before .before .before .before .before .before .before .read-u16 .result), c .before .before .before .before .before .before .before .before .before .before .before .before .before .before .before .before .before .before .before .before .pre .3)))
 
 same-length : tie.Need-same-length Inv-loop μ-loop Inv-entries μ-entries
 same-length c = c .before .entries .inv .linked .wide ∙ sym (c .before .before .before .before .before .before .before .before .before .before .pre .1)

@@ -15,7 +15,7 @@ slice-aggregate-walk-links-2 c = search needs
 walk-links-requires : tie.Need-walk-links-requires
 walk-links-requires c κs =
     let a = c .before .before .before .before .before .before .before .before .args in
-    (c .before .before .before .before .before .before .before .before .pre .0, refl, blank 2039, long 5462 _ (names-few (a .p .now) (a .starts .now) (a .heads .now) (a .next .now) (c .before .before .before .before .before .before .before .before .pre .0)), blank 5462, c .before .before .before .before .before .before .before .before .pre .1, c .before .before .before .before .before .before .before .before .pre .2)
+    (c .before .before .before .before .before .before .before .before .pre .0, refl, blank 2048, long 5462 _ (names-few (a .p .now) (a .starts .now) (a .heads .now) (a .next .now) (c .before .before .before .before .before .before .before .before .pre .0)), blank 5462, c .before .before .before .before .before .before .before .before .pre .1, c .before .before .before .before .before .before .before .before .pre .2)
 
 same-length : tie.Need-same-length
 same-length c = search needs
