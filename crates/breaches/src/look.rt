@@ -27,7 +27,7 @@ fn is_presented(p: &[u8], starts: &[u16], heads: &[u16], next: &[u16], id: u16) 
     naming::kind_at(p, starts, named) == 5
 }
 
-// Rules 1 and 2 of record i, which has a kind.
+// Whether rules 1 and 2 find nothing in record i, as one of a kind.
 fn is_own(p: &[u8], starts: &[u16], heads: &[u16], next: &[u16], i: usize, kind: u16) -> bool
     requires { ⌜ Names (now p) (now starts) (now heads) (now next) × (i + 1 < length (now starts)) ⌝ }
     ensures { λ r. ⌜ r ≡ not (badOwn kind (idAt (entriesOf (now (p .entry)) (now (starts .entry))) i) || repeats (idAt (entriesOf (now (p .entry)) (now (starts .entry)))) (idAt (entriesOf (now (p .entry)) (now (starts .entry))) i) i (length (entriesOf (now (p .entry)) (now (starts .entry))))) ⌝ }
@@ -36,6 +36,7 @@ fn is_own(p: &[u8], starts: &[u16], heads: &[u16], next: &[u16], i: usize, kind:
     !(bad | naming::repeats_id(p, starts, heads, next, i))
 }
 
+// Process data. The look at a property differs in where the text stands and has no rule 5; both are quicker for standing apart.
 fn is_clear_data(p: &[u8], starts: &[u16], heads: &[u16], next: &[u16], i: usize) -> bool
     requires { ⌜ Names (now p) (now starts) (now heads) (now next) × (i + 1 < length (now starts)) ⌝ }
     ensures { λ r. ⌜ (r ≡ true → kindAt (entriesOf (now (p .entry)) (now (starts .entry))) i ≡ 3 → AllClear (recordRows (now (p .entry)) (entriesOf (now (p .entry)) (now (starts .entry))) i)) ⌝ }

@@ -100,9 +100,9 @@ struct Settled {
     full: bool,
 }
 
-// Rules 8 and 9 of record i, a device element, of which fields, the number that its parent names and that one's kind are given. All
-// records are marked before rule 8 is judged where the number is over 4095, and else before rule 9: two calls, so that what marks them
-// keeps a frame of its own.
+// Rules 8 and 9 of record i, a device element: its fields, the number of the record that its parent names and that one's kind are given. As
+// long as all are usual its number is noted, and that is all. All records are marked before rule 8 is judged where the number is over 4095,
+// and else before rule 9: two calls, so that what marks them keeps a frame of its own.
 fn settle_element(
     p: &[u8],
     starts: &[u16],
