@@ -3,7 +3,6 @@
 use checker::Verdict;
 use session::Answer;
 use session::Session;
-use session::Stage;
 use session::Step;
 use working_table::Record;
 ghost use mathlib.Core.Path.{_≡_};
@@ -23,17 +22,16 @@ fn activate_kept(s: Session, room: usize) -> Step
     if s.kept == 0 {
         return session::refuse(s, Answer::NotOffered);
     }
-    if room < s.kept {
+    if room < s.kept as usize {
         return session::refuse(s, Answer::NoRoom);
     }
-    let stage = s.stage;
     Step {
         session: Session {
-            stage,
             announced: s.announced,
             received: s.received,
             kept: s.kept,
-            active: true,
+            stage: s.stage,
+            active: 1,
         },
         answer: Answer::Done,
     }
@@ -108,11 +106,11 @@ fn settle(s: Session, p: &[u8], kept: &mut [u8], room: usize, starts: &mut [u16]
     wire::copy(p, kept, 0);
     let step = Step {
         session: Session {
-            stage: Stage::Idle,
             announced: 0,
             received: 0,
-            kept: p.len(),
-            active: true,
+            kept: p.len() as u32,
+            stage: 0,
+            active: 1,
         },
         answer: Answer::Done,
     };
@@ -134,14 +132,13 @@ pub fn activate_in(
     if session::is_impossible(s) {
         return filling(session::refuse(s, Answer::CannotArise), 0);
     }
-    let stage = s.stage;
-    if !session::is_offered(stage) {
+    if s.stage != 1 {
         return filling(activate_kept(s, kept.len()), 0);
     }
-    let announced = s.announced;
-    if s.received < announced {
+    if s.received < s.announced {
         return filling(session::refuse(s, Answer::Incomplete), 0);
     }
+    let announced = s.announced as usize;
     if (staging.len() < announced) | (kept.len() < announced) {
         return filling(session::refuse(s, Answer::NoRoom), 0);
     }

@@ -4,12 +4,16 @@ use device::Place;
 use judging::Judgement;
 use messages::Message;
 use pool::Outcome;
+use session::Session;
+use session::Step;
 ghost use mathlib.Core.Path.{_≡_};
 ghost use Rattle.pool.specs.Answer.{answerOf};
 ghost use Rattle.checker.specs.Checking.{verdictOf};
+ghost use Rattle.session.specs.Calls.{stepOf};
 ghost use Rattle.messages.specs.Reading.{refused, fieldsOf};
 ghost use Rattle.answers.specs.Numbers.{Says};
 ghost use Rattle.answers.specs.Exchange.{fieldsIn};
+ghost use Rattle.answers.specs.Steps.{stepIn};
 
 pub fn give_outcome(outcome: Outcome, value: &mut usize) -> u32
     ensures { λ r. ⌜ Says (answerOf outcome) r (now (value .exit)) ⌝ }
@@ -33,14 +37,15 @@ pub fn give_place(place: Place, from: &mut usize, to: &mut usize) -> u32
     place.number
 }
 
-// A message that is read: number 0 and its fields, an acknowledge with command 13, or the number of a refusal with zeros.
+// A message that is read: number 0 and its fields, an acknowledge with command 13, or the number of a refusal with zeros. In this
+// order they take 16 bytes, which every machine hands back in two registers.
 #[repr(C)]
 pub struct MessageFields {
     pub number: u32,
-    pub command: u8,
+    pub value: i32,
     pub element: u16,
     pub ddi: u16,
-    pub value: i32,
+    pub command: u8,
     pub errors: u8,
     pub answered: u8,
 }
@@ -50,10 +55,10 @@ fn give_refusal(number: u32) -> MessageFields
 {
     MessageFields {
         number,
-        command: 0,
+        value: 0,
         element: 0,
         ddi: 0,
-        value: 0,
+        command: 0,
         errors: 0,
         answered: 0,
     }
@@ -70,10 +75,10 @@ pub fn give_message(message: Message) -> MessageFields
             value,
         } => MessageFields {
             number: 0,
-            command,
+            value,
             element,
             ddi,
-            value,
+            command,
             errors: 0,
             answered: 0,
         },
@@ -84,10 +89,10 @@ pub fn give_message(message: Message) -> MessageFields
             answered,
         } => MessageFields {
             number: 0,
-            command: 13,
+            value: 0,
             element,
             ddi,
-            value: 0,
+            command: 13,
             errors,
             answered,
         },
@@ -101,4 +106,31 @@ pub fn give_judgement(judgement: Judgement, error: &mut u8) -> u32
 {
     *error = judgement.error;
     judgement.number
+}
+
+// The value that a session call leaves and its answer: number 0, or a refusal's number with its place or the first fault.
+#[repr(C)]
+pub struct StepFields {
+    pub session: Session,
+    pub place: usize,
+    pub number: u32,
+    pub record: u16,
+    pub rule: u16,
+    pub item: u16,
+}
+
+pub fn give_step(step: Step) -> StepFields
+    ensures { λ r. ⌜ stepIn r ≡ stepOf step ⌝ }
+{
+    let session = step.session;
+    let answer = step.answer;
+    let n = session::numbers_of(answer);
+    StepFields {
+        session,
+        place: n.place,
+        number: n.number,
+        record: n.record,
+        rule: n.rule,
+        item: n.item,
+    }
 }

@@ -1,5 +1,5 @@
 -- `judge`, at a list of either length. Assumes nothing.
-use Rattle.working_table.proofs.Over.{_≡_, refl, _∙_, ap, List, [], _∷_, ℕ, _≤_, length, replicate, URA, fullShare, Name, Fn, SProp, emp, Model, Routines, Heap, Closed, factI, GhostRules, Running, givenOf, tables, tripleOf, Contract, Triple, cited, Line, Carried, struct-of, list-typed, made, R, Size, pTy, tTy, fill-lines, Rest, Over, fills-over, w16, tyInt, vint, plain, u16, uint-tells, uint-lawful, yes, has, w8, w32, u8}
+use Rattle.working_table.proofs.Over.{_≡_, refl, _∙_, ap, List, [], _∷_, ℕ, _≤_, length, replicate, URA, fullShare, Name, Fn, SProp, emp, Model, Routines, Heap, Closed, factI, GhostRules, Running, givenOf, tables, tripleOf, Contract, Triple, cited, Line, Carried, struct-of, list-typed, made, R, Size, pTy, tTy, fill-lines, Rest, Over, fills-over, w16, tyInt, vint, plain, u16, uint-tells, uint-lawful, yes, has, w32, u32}
 use denote.Builtin.{i32}
 use denote.Signed.{sint-vals, sint-tells, sint-lawful}
 use denote.Steps.{only}
@@ -27,14 +27,14 @@ abbrev text : ℕ → List Line
 text = fill-lines 6 0 [] (3 ∷ 4 ∷ 5 ∷ 6 ∷ []) core-def.name count-def.name answer-def.name
 
 abbrev judging : ℕ → Fn
-judging N = made R 2 6 P′.mir (pTy ∷ tTy ∷ tyInt w8 ∷ tyInt w16 ∷ tyInt w16 ∷ tyInt w32 ∷ []) S′.mir [] N (text N)
+judging N = made R 2 6 P′.mir (pTy ∷ tTy ∷ tyInt w32 ∷ tyInt w32 ∷ tyInt w16 ∷ tyInt w32 ∷ []) S′.mir [] N (text N)
 
 abbrev pub command : Rest 0
 command = record {
-  slots = plain (λ _. u8) ∷ plain (λ _. u16) ∷ plain (λ _. u16) ∷ plain (λ _. i32) ∷ [];
+  slots = plain (λ _. u32) ∷ plain (λ _. u32) ∷ plain (λ _. u16) ∷ plain (λ _. i32) ∷ [];
   kept = (yes, (yes, (yes, (yes, tt))));
-  holds = λ κs. (λ n. has (vint w8 n), (λ n. has (vint w16 n), (λ n. has (vint w16 n), (λ x. has (only (sint-vals w32 x)), tt))));
-  tells = λ κs. (uint-tells w8, (uint-tells w16, (uint-tells w16, (sint-tells w32, tt))));
+  holds = λ κs. (λ n. has (vint w32 n), (λ n. has (vint w32 n), (λ n. has (vint w16 n), (λ x. has (only (sint-vals w32 x)), tt))));
+  tells = λ κs. (uint-tells w32, (uint-tells w32, (uint-tells w16, (sint-tells w32, tt))));
 }
 
 module _ {M : Type 1} (𝓤 : URA M) (H : Heap 𝓤) (𝓜 : Model 𝓤 H) (𝓖 : GhostRules 𝓤 H) (𝓡 : Running 𝓤 H 𝓜) where
@@ -55,7 +55,7 @@ module _ {M : Type 1} (𝓤 : URA M) (H : Heap 𝓤) (𝓜 : Model 𝓤 H) (𝓖
       fills-over 𝓤 H 𝓜 𝓖 𝓡 judged judgement 0 command (λ κs a. judge.clauses 𝓤 H A (𝓜 .mem) (𝓡 .run) κs a .ensures tt) env name (judging (s .numbers)) closed
       (λ κs p room c d zs out. (d .judgement .number ≡ judgeNumber p room (c .1 .0)) × (d .judgement .error ≡ judgeError p room (c .0) (c .1 .0) (c .1 .1 .0) (c .1 .1 .1 .0)) × (d .records ≡ judgedCount p room (c .1 .0)) × (c .1 .0 ≤ 4095 → Listed p room zs)) (λ d. d .records) (λ d r. r ≡ d .judgement) s core-def.name count-def.name answer-def.name (text (s .numbers)) refl
       (λ κs qs a are l₀ l₁ l₂ l₃ l₄ l₅ l₆ l₇ l₈ l₉ l₁₀ l₁₁ l₁₂ l₁₃ l₁₄ l₁₅ l₁₆. (
-        ((tt, (tt, (tt, (record { fits = are .0 .0 .1 .0 }, tt)))), ((tt, (tt, (tt, (record { fits = are .1 .0 .0 .1 .0 }, tt)))), ((tt, uint-lawful 𝓤 H A (givenOf 𝓤 H 𝓜 𝓖) w8 .typed (a .1 .1 .0) _ (are .1 .1 .0) .0), ((tt, uint-lawful 𝓤 H A (givenOf 𝓤 H 𝓜 𝓖) w16 .typed (a .1 .1 .1 .0) _ (are .1 .1 .1 .0) .0), ((tt, uint-lawful 𝓤 H A (givenOf 𝓤 H 𝓜 𝓖) w16 .typed (a .1 .1 .1 .1 .0) _ (are .1 .1 .1 .1 .0) .0), ((tt, sint-lawful 𝓤 H A (givenOf 𝓤 H 𝓜 𝓖) w32 .typed (a .1 .1 .1 .1 .1 .0) _ (are .1 .1 .1 .1 .1 .0) .0), tt)))))),
+        ((tt, (tt, (tt, (record { fits = are .0 .0 .1 .0 }, tt)))), ((tt, (tt, (tt, (record { fits = are .1 .0 .0 .1 .0 }, tt)))), ((tt, uint-lawful 𝓤 H A (givenOf 𝓤 H 𝓜 𝓖) w32 .typed (a .1 .1 .0) _ (are .1 .1 .0) .0), ((tt, uint-lawful 𝓤 H A (givenOf 𝓤 H 𝓜 𝓖) w32 .typed (a .1 .1 .1 .0) _ (are .1 .1 .1 .0) .0), ((tt, uint-lawful 𝓤 H A (givenOf 𝓤 H 𝓜 𝓖) w16 .typed (a .1 .1 .1 .1 .0) _ (are .1 .1 .1 .1 .0) .0), ((tt, sint-lawful 𝓤 H A (givenOf 𝓤 H 𝓜 𝓖) w32 .typed (a .1 .1 .1 .1 .1 .0) _ (are .1 .1 .1 .1 .1 .0) .0), tt)))))),
         (tt, tt, list-typed 𝓤 H A (givenOf 𝓤 H 𝓜 𝓖) (s .numbers), (refl, refl, tt, tt, (s .fits, tt, tt, refl, tt, tt, (tt, (_, tt, λ r. (s .fits, tt, tt, refl, tt, tt, (_, tt, λ r₁. (refl, refl, tt, tt, refl, refl, tt, tt, (_, tt, λ r₂ v. (_, tt, λ r₃. (tt, _))))))))))),
         (l₇, refl),
       ))

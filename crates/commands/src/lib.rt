@@ -25,8 +25,8 @@ fn judgement_of(judged: Judged) -> Judgement
 fn judge_short(
     p: &[u8],
     table: &mut [Record],
-    command: u8,
-    element: u16,
+    command: u32,
+    element: u32,
     ddi: u16,
     value: i32,
 ) -> Judgement
@@ -42,8 +42,8 @@ fn judge_short(
 fn judge_long(
     p: &[u8],
     table: &mut [Record],
-    command: u8,
-    element: u16,
+    command: u32,
+    element: u32,
     ddi: u16,
     value: i32,
 ) -> Judgement
@@ -59,8 +59,8 @@ fn judge_long(
 pub fn judge(
     p: &[u8],
     table: &mut [Record],
-    command: u8,
-    element: u16,
+    command: u32,
+    element: u32,
     ddi: u16,
     value: i32,
 ) -> Judgement

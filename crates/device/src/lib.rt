@@ -43,14 +43,14 @@ pub fn refusal(verdict: Verdict) -> u32
 }
 
 // The number, from 1, of the first record with an ID, 0 for none.
-fn first_with(p: &[u8], starts: &[u16], id: u16) -> u16
+fn first_with(p: &[u8], starts: &[u16], id: u32) -> u16
     requires { ⌜ Divided (now p) (now starts) ⌝ }
     ensures { λ r. ⌜ r ≡ carrier (entriesOf (now (p .entry)) (now (starts .entry))) id ⌝ }
 {
     let count = starts.len() - 1;
     let mut i: usize = 0;
     while i < count {
-        if naming::id_at(p, starts, i) == id {
+        if naming::id_at(p, starts, i) as u32 == id {
             return (i + 1) as u16;
         }
         i += 1;
@@ -81,7 +81,7 @@ fn text_in(p: &[u8], kind: u16, at: u16) -> Span
 }
 
 // Finds a text among the records of a pool: its place lies within the pool, also where it is empty.
-fn find_among(p: &[u8], starts: &[u16], id: u16) -> Place
+fn find_among(p: &[u8], starts: &[u16], id: u32) -> Place
     requires { ⌜ Divided (now p) (now starts) ⌝ }
     ensures { λ r. ⌜ FindsAmong (now (p .entry)) (entriesOf (now (p .entry)) (now (starts .entry))) id r ⌝ }
 {
@@ -104,7 +104,7 @@ fn find_among(p: &[u8], starts: &[u16], id: u16) -> Place
 
 // Finds a text in a pool that has been checked, by the list that the check has listed the records in. No entry point, so it may ask
 // that the verdict and the list are the pool's.
-pub fn find_in(p: &[u8], room: usize, starts: &[u16], verdict: Verdict, id: u16) -> Place
+pub fn find_in(p: &[u8], room: usize, starts: &[u16], verdict: Verdict, id: u32) -> Place
     requires { ⌜ CheckedBy (now p) room (now starts) verdict ⌝ }
     ensures { λ r. ⌜ Finds (now (p .entry)) room id r ⌝ }
 {

@@ -1,5 +1,5 @@
 -- `find_text`, at a list of either length. Assumes nothing.
-use Rattle.working_table.proofs.Over.{_≡_, refl, sym, subst, List, [], _∷_, ℕ, length, replicate, URA, fullShare, Name, Fn, SProp, emp, Model, Routines, Heap, Closed, factI, GhostRules, Running, givenOf, tables, tripleOf, Contract, Triple, cited, Line, Carried, struct-of, list-typed, made, R, Size, pTy, tTy, fill-lines, Rest, Over, fills-over, w16, tyInt, vint, plain, u16, uint-tells, uint-lawful, yes, has}
+use Rattle.working_table.proofs.Over.{_≡_, refl, sym, subst, List, [], _∷_, ℕ, length, replicate, URA, fullShare, Name, Fn, SProp, emp, Model, Routines, Heap, Closed, factI, GhostRules, Running, givenOf, tables, tripleOf, Contract, Triple, cited, Line, Carried, struct-of, list-typed, made, R, Size, pTy, tTy, fill-lines, Rest, Over, fills-over, w32, tyInt, vint, plain, u32, uint-tells, uint-lawful, yes, has}
 use Rattle.working_table.proofs.gather.Symbol as gather-def
 use Rattle.pool.specs.Walk.{Listed}
 use Rattle.checker.specs.Checking.{countOf}
@@ -24,10 +24,10 @@ abbrev text : ℕ → List Line
 text = fill-lines 3 0 [] (3 ∷ []) core-def.name count-def.name answer-def.name
 
 abbrev finding : ℕ → Fn
-finding N = made R 2 3 P′.mir (pTy ∷ tTy ∷ tyInt w16 ∷ []) S′.mir [] N (text N)
+finding N = made R 2 3 P′.mir (pTy ∷ tTy ∷ tyInt w32 ∷ []) S′.mir [] N (text N)
 
 abbrev pub id : Rest 0
-id = record { slots = plain (λ _. u16) ∷ []; kept = (yes, tt); holds = λ κs. (λ n. has (vint w16 n), tt); tells = λ κs. (uint-tells w16, tt) }
+id = record { slots = plain (λ _. u32) ∷ []; kept = (yes, tt); holds = λ κs. (λ n. has (vint w32 n), tt); tells = λ κs. (uint-tells w32, tt) }
 
 module _ {M : Type 1} (𝓤 : URA M) (H : Heap 𝓤) (𝓜 : Model 𝓤 H) (𝓖 : GhostRules 𝓤 H) (𝓡 : Running 𝓤 H 𝓜) where
   abbrev pub found : Carried 𝓤 H (𝓖 .A)
@@ -47,7 +47,7 @@ module _ {M : Type 1} (𝓤 : URA M) (H : Heap 𝓤) (𝓜 : Model 𝓤 H) (𝓖
       fills-over 𝓤 H 𝓜 𝓖 𝓡 found place 0 id (λ κs a. find-text.clauses 𝓤 H A (𝓜 .mem) (𝓡 .run) κs a .ensures tt) env name (finding (s .numbers)) closed
       (λ κs p room c d zs out. Finds p room (c .0) (d .place) × (d .records ≡ countOf p room) × Listed p room zs) (λ d. d .records) (λ d r. r ≡ d .place) s core-def.name count-def.name answer-def.name (text (s .numbers)) refl
       (λ κs qs a are l₀ l₁ l₂ l₃ l₄ l₅ l₆ l₇ l₈ l₉ l₁₀ l₁₁ l₁₂ l₁₃. (
-        ((tt, (tt, (tt, (record { fits = are .0 .0 .1 .0 }, tt)))), ((tt, (tt, (tt, (record { fits = are .1 .0 .0 .1 .0 }, tt)))), ((tt, uint-lawful 𝓤 H A (givenOf 𝓤 H 𝓜 𝓖) w16 .typed (a .1 .1 .0) _ (are .1 .1 .0) .0), tt))),
+        ((tt, (tt, (tt, (record { fits = are .0 .0 .1 .0 }, tt)))), ((tt, (tt, (tt, (record { fits = are .1 .0 .0 .1 .0 }, tt)))), ((tt, uint-lawful 𝓤 H A (givenOf 𝓤 H 𝓜 𝓖) w32 .typed (a .1 .1 .0) _ (are .1 .1 .0) .0), tt))),
         (tt, tt, list-typed 𝓤 H A (givenOf 𝓤 H 𝓜 𝓖) (s .numbers), (refl, refl, tt, tt, (s .fits, tt, tt, refl, tt, tt, (tt, (_, tt, λ r. (s .fits, tt, tt, refl, tt, tt, (_, tt, λ r₁. (refl, refl, tt, tt, refl, refl, tt, tt, (_, tt, λ r₂ v. (_, tt, λ r₃. (tt, _))))))))))),
         (l₄, refl),
       ))

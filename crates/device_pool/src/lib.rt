@@ -49,7 +49,7 @@ fn shown_labels(shown: Shown) -> DeviceLabels
 }
 
 // Finds a text by a list that reaches for every record. Of the faults only the count matters, so the buffer for them has room for one.
-pub fn find_by(p: &[u8], room: usize, starts: &mut [u16], id: u16) -> Found
+pub fn find_by(p: &[u8], room: usize, starts: &mut [u16], id: u32) -> Found
     requires { ⌜ Reaches (now starts) (now p) ⌝ }
     ensures { λ r. ⌜ Finds (now (p .entry)) room id (r .place) × (r .records ≡ countOf (now (p .entry)) room) × Listed (now (p .entry)) room (now (starts .exit)) ⌝ }
 {
@@ -63,7 +63,7 @@ pub fn find_by(p: &[u8], room: usize, starts: &mut [u16], id: u16) -> Found
 }
 
 // A list for a pool of at most 12,276 bytes, and one for every pool, as for a check.
-fn find_text_short(p: &[u8], table: &mut [Record], id: u16) -> Place
+fn find_text_short(p: &[u8], table: &mut [Record], id: u32) -> Place
     requires { ⌜ length (now p) ≤ 12276 ⌝ }
     ensures { λ r. ⌜ Finds (now (p .entry)) (length (now (table .entry))) id r × (now (table .exit) ≡ recordsAfter (now (p .entry)) (now (table .entry))) ⌝ }
 {
@@ -73,7 +73,7 @@ fn find_text_short(p: &[u8], table: &mut [Record], id: u16) -> Place
     found_place(found)
 }
 
-fn find_text_long(p: &[u8], table: &mut [Record], id: u16) -> Place
+fn find_text_long(p: &[u8], table: &mut [Record], id: u32) -> Place
     ensures { λ r. ⌜ Finds (now (p .entry)) (length (now (table .entry))) id r × (now (table .exit) ≡ recordsAfter (now (p .entry)) (now (table .entry))) ⌝ }
 {
     let mut starts = [0u16; 5462];
@@ -83,7 +83,7 @@ fn find_text_long(p: &[u8], table: &mut [Record], id: u16) -> Place
 }
 
 // Where the text of the first record with an ID stands in the pool, also where it is empty.
-pub fn find_text(p: &[u8], table: &mut [Record], id: u16) -> Place
+pub fn find_text(p: &[u8], table: &mut [Record], id: u32) -> Place
     ensures { λ r. ⌜ Finds (now (p .entry)) (length (now (table .entry))) id r × (now (table .exit) ≡ recordsAfter (now (p .entry)) (now (table .entry))) ⌝ }
 {
     if p.len() <= 12276 {
@@ -94,7 +94,7 @@ pub fn find_text(p: &[u8], table: &mut [Record], id: u16) -> Place
 
 // The text of the first record with an ID, as a slice of the pool that was lent. The number tells a refusal from a text
 // without bytes.
-pub fn text<'a>(p: &'a [u8], table: &mut [Record], id: u16, number: &mut u32) -> &'a [u8]
+pub fn text<'a>(p: &'a [u8], table: &mut [Record], id: u32, number: &mut u32) -> &'a [u8]
     ensures { λ r. ⌜ (now r ≡ textOf (now (p .entry)) (length (now (table .entry))) id) × (now (number .exit) ≡ textNumber (now (p .entry)) (length (now (table .entry))) id) × (now (table .exit) ≡ recordsAfter (now (p .entry)) (now (table .entry))) ⌝ }
 {
     let place = find_text(p, table, id);

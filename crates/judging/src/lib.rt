@@ -102,14 +102,14 @@ fn bits_of(p: &[u8], kind: u16, at: u16) -> Bits
 }
 
 // Whether a command sets a value that may not be set.
-fn lacks_setting(properties: u8, command: u8) -> bool
+fn lacks_setting(properties: u8, command: u32) -> bool
     ensures { λ r. ⌜ r ≡ lacksSetting properties command ⌝ }
 {
     ((command == 3) | (command == 10)) & (properties / 2 % 2 == 0)
 }
 
 // Whether the trigger that a command asks for is missing.
-fn lacks_trigger(triggers: u8, command: u8) -> bool
+fn lacks_trigger(triggers: u8, command: u32) -> bool
     ensures { λ r. ⌜ r ≡ lacksTrigger triggers command ⌝ }
 {
     ((command == 4) & (triggers % 2 == 0))
@@ -119,14 +119,14 @@ fn lacks_trigger(triggers: u8, command: u8) -> bool
 }
 
 // Whether an interval is negative.
-fn lacks_interval(value: i32, command: u8) -> bool
+fn lacks_interval(value: i32, command: u32) -> bool
     ensures { λ r. ⌜ r ≡ lacksInterval value command ⌝ }
 {
     ((command == 4) | (command == 5)) & (value < 0)
 }
 
 // The error byte from the object on.
-fn object_error(properties: u8, triggers: u8, command: u8, value: i32) -> u8
+fn object_error(properties: u8, triggers: u8, command: u32, value: i32) -> u8
     ensures { λ r. ⌜ r ≡ objectError properties triggers command value ⌝ }
 {
     if lacks_setting(properties, command) {
@@ -147,7 +147,7 @@ fn error_in(
     starts: &[u16],
     heads: &[u16],
     next: &[u16],
-    command: u8,
+    command: u32,
     element: u16,
     ddi: u16,
     value: i32,
@@ -180,7 +180,7 @@ fn judge_named(
     next: &[u16],
     again: &mut [u8],
     endless: &mut [u8],
-    command: u8,
+    command: u32,
     element: u16,
     ddi: u16,
     value: i32,
@@ -205,7 +205,7 @@ fn judge_named(
 fn judge_short(
     p: &[u8],
     starts: &[u16],
-    command: u8,
+    command: u32,
     element: u16,
     ddi: u16,
     value: i32,
@@ -235,7 +235,7 @@ fn judge_short(
 fn judge_long(
     p: &[u8],
     starts: &[u16],
-    command: u8,
+    command: u32,
     element: u16,
     ddi: u16,
     value: i32,
@@ -266,7 +266,7 @@ fn judge_long(
 fn judge_among(
     p: &[u8],
     starts: &[u16],
-    command: u8,
+    command: u32,
     element: u16,
     ddi: u16,
     value: i32,
@@ -286,8 +286,8 @@ pub fn judge_by(
     p: &[u8],
     room: usize,
     starts: &mut [u16],
-    command: u8,
-    element: u16,
+    command: u32,
+    element: u32,
     ddi: u16,
     value: i32,
 ) -> Judged
@@ -300,7 +300,7 @@ pub fn judge_by(
     let outcome = pool::list_for(p, room, starts);
     if let Outcome::Records(count) = outcome {
         let end = count + 1;
-        let judgement = judge_among(p, &starts[..end], command, element, ddi, value);
+        let judgement = judge_among(p, &starts[..end], command, element as u16, ddi, value);
         return judgement_of(count, judgement.number, judgement.error);
     }
     judgement_of(0, pool::number_of(outcome), 0)

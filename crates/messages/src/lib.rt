@@ -36,7 +36,7 @@ pub enum Written {
 }
 
 // Whether a command carries a value: 2 to 8 and A.
-pub fn carries_value(command: u8) -> bool
+pub fn carries_value(command: u32) -> bool
     ensures { λ r. ⌜ r ≡ carriesValue command ⌝ }
 {
     ((2 <= command) & (command <= 8)) | (command == 10)
@@ -52,7 +52,7 @@ pub fn read(bytes: &[u8]) -> Message
     let command = bytes[0] % 16;
     let element = (bytes[0] / 16) as u16 + 16 * bytes[1] as u16;
     let ddi = wire::read_u16(bytes, 2);
-    if carries_value(command) {
+    if carries_value(command as u32) {
         return Message::Value {
             command,
             element,
@@ -81,8 +81,8 @@ fn put_head(to: &mut [u8], command: u8, element: u16, ddi: u16)
     wire::write_u16(to, 2, ddi);
 }
 
-// Writes a value message.
-pub fn write_value(to: &mut [u8], command: u8, element: u16, ddi: u16, value: i32) -> Written
+// Writes a value message. A command or element number is taken in 32 bits, so that none is cut to another on its way here.
+pub fn write_value(to: &mut [u8], command: u32, element: u32, ddi: u16, value: i32) -> Written
     ensures { λ r. ⌜ (numberOf r ≡ valueRefusal command element (length (now (to .entry)))) × (now (to .exit) ≡ valueAfter (now (to .entry)) command element ddi value) ⌝ }
 {
     if !carries_value(command) {
@@ -94,7 +94,7 @@ pub fn write_value(to: &mut [u8], command: u8, element: u16, ddi: u16, value: i3
     if to.len() < 8 {
         return Written::NoRoom;
     }
-    put_head(to, command, element, ddi);
+    put_head(to, command as u8, element as u16, ddi);
     wire::write_i32(to, 4, value);
     Written::Done
 }
@@ -111,7 +111,13 @@ fn put_answer(to: &mut [u8], errors: u8, answered: u8)
 }
 
 // Writes an acknowledge.
-pub fn write_acknowledge(to: &mut [u8], element: u16, ddi: u16, errors: u8, answered: u8) -> Written
+pub fn write_acknowledge(
+    to: &mut [u8],
+    element: u32,
+    ddi: u16,
+    errors: u8,
+    answered: u32,
+) -> Written
     ensures { λ r. ⌜ (numberOf r ≡ acknowledgeRefusal element answered (length (now (to .entry)))) × (now (to .exit) ≡ acknowledgeAfter (now (to .entry)) element ddi errors answered) ⌝ }
 {
     if (4095 < element) | (15 < answered) {
@@ -120,8 +126,8 @@ pub fn write_acknowledge(to: &mut [u8], element: u16, ddi: u16, errors: u8, answ
     if to.len() < 8 {
         return Written::NoRoom;
     }
-    put_head(to, 13, element, ddi);
-    put_answer(to, errors, answered);
+    put_head(to, 13, element as u16, ddi);
+    put_answer(to, errors, answered as u8);
     Written::Done
 }
 

@@ -26,11 +26,13 @@ pub enum Extent {
 }
 
 // A part of the pool: from a place up to another.
+#[repr(C)]
 pub struct Span {
     pub from: usize,
     pub to: usize,
 }
 
+#[repr(C)]
 pub struct Device {
     pub designator: Span,
     pub version: Span,
@@ -41,6 +43,7 @@ pub struct Device {
     pub extended: Span,
 }
 
+#[repr(C)]
 pub struct DeviceElement {
     pub element_type: u8,
     pub designator: Span,
@@ -49,6 +52,7 @@ pub struct DeviceElement {
     pub entries: u16,
 }
 
+#[repr(C)]
 pub struct ProcessData {
     pub ddi: u16,
     pub properties: u8,
@@ -57,6 +61,7 @@ pub struct ProcessData {
     pub presentation: u16,
 }
 
+#[repr(C)]
 pub struct Property {
     pub ddi: u16,
     pub value: i32,
@@ -65,6 +70,7 @@ pub struct Property {
 }
 
 // The scale as its bits: whether it is in range is judged on these.
+#[repr(C)]
 pub struct ValuePresentation {
     pub offset: i32,
     pub scale: u32,

@@ -9,7 +9,7 @@ use lib.Dec.{eqb, ltb}
 use lib.ListN.{length, take}
 use lib.Seq.{length-take-le}
 use Rattle.wire.proofs.Either.{neither}
-use Rattle.session.specs.Calls.{isOffered, impossible}
+use Rattle.session.specs.Calls.{isOffered, isActive, impossible}
 use Rattle.session.specs.declared.Session.{Session}
 
 not-both : (a b : Bool) → (a && b) ≡ false → a ≡ true → b ≡ false
@@ -27,14 +27,14 @@ none a b c d f g e =
 
 module _ (s : Session) (e : impossible s ≡ false) where
   tests :
-      (ltb 65535 (s .announced) ≡ false) × (ltb 65535 (s .kept) ≡ false) × ((isOffered (s .stage) && eqb (s .announced) 0) ≡ false)
-      × (ltb (s .announced) (s .received) ≡ false) × ((s .active && eqb (s .kept) 0) ≡ false)
-      × ((not (isOffered (s .stage)) && (not (eqb (s .announced) 0) || not (eqb (s .received) 0))) ≡ false)
+      ((ltb 1 (s .stage) || ltb 1 (s .active)) ≡ false) × ((ltb 65535 (s .announced) || ltb 65535 (s .kept)) ≡ false)
+      × ((isOffered s && eqb (s .announced) 0) ≡ false) × (ltb (s .announced) (s .received) ≡ false) × ((isActive s && eqb (s .kept) 0) ≡ false)
+      × ((not (isOffered s) && (not (eqb (s .announced) 0) || not (eqb (s .received) 0))) ≡ false)
   unfolding impossible
   tests =
-      none (ltb 65535 (s .announced)) (ltb 65535 (s .kept)) (isOffered (s .stage) && eqb (s .announced) 0) (ltb (s .announced) (s .received))
-      (s .active && eqb (s .kept) 0)
-      (not (isOffered (s .stage)) && (not (eqb (s .announced) 0) || not (eqb (s .received) 0)))
+      none (ltb 1 (s .stage) || ltb 1 (s .active)) (ltb 65535 (s .announced) || ltb 65535 (s .kept)) (isOffered s && eqb (s .announced) 0)
+      (ltb (s .announced) (s .received)) (isActive s && eqb (s .kept) 0)
+      (not (isOffered s) && (not (eqb (s .announced) 0) || not (eqb (s .received) 0)))
       e
 
   -- no more is received than was announced, which is no more than a pool may have
@@ -42,17 +42,17 @@ module _ (s : Session) (e : impossible s ≡ false) where
   within = ltb-false (s .announced) (s .received) (tests .3)
 
   pub small : s .announced ≤ 65535
-  small = ltb-false 65535 (s .announced) (tests .0)
+  small = ltb-false 65535 (s .announced) (neither (ltb 65535 (s .announced)) (ltb 65535 (s .kept)) (tests .1) .0)
 
   -- an offer announces something
-  pub some : isOffered (s .stage) ≡ true → 1 ≤ s .announced
-  some o = positive (s .announced) (eqb-false (s .announced) 0 (not-both (isOffered (s .stage)) (eqb (s .announced) 0) (tests .2) o))
+  pub some : isOffered s ≡ true → 1 ≤ s .announced
+  some o = positive (s .announced) (eqb-false (s .announced) 0 (not-both (isOffered s) (eqb (s .announced) 0) (tests .2) o))
     where
       positive : (n : ℕ) → (n ≡ 0 → ⊥) → 1 ≤ n
       positive n h = omega arith
 
 -- the pool that is checked: what the areas have room for, of a size that is announced
-pub sized : (s : Session) (staging kept : List ℕ) → impossible s ≡ false → isOffered (s .stage) ≡ true → (ltb (length staging) (s .announced) || ltb (length kept) (s .announced)) ≡ false
+pub sized : (s : Session) (staging kept : List ℕ) → impossible s ≡ false → isOffered s ≡ true → (ltb (length staging) (s .announced) || ltb (length kept) (s .announced)) ≡ false
     → (s .announced ≤ length staging) × (1 ≤ length (take (s .announced) staging)) × (length (take (s .announced) staging) ≤ 65535) × (length (take (s .announced) staging) ≤ length kept)
 sized s staging kept e o h =
     let n = neither (ltb (length staging) (s .announced)) (ltb (length kept) (s .announced)) h in

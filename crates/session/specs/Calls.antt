@@ -7,32 +7,34 @@ use lib.Dec.{eqb, ltb}
 use lib.ListN.{length}
 use lib.Seq.{sets}
 use Rattle.session.specs.Answers.{Reply, reply, replyOf}
-use Rattle.session.specs.declared.Stage.{Stage}
-use Rattle.session.specs.declared.Stage.the-variants.{Idle, Offered}
 use Rattle.session.specs.declared.Session.{Session}
 use Rattle.session.specs.declared.Step.{Step}
 
 -- a new value: nothing offered, kept or active
 abbrev pub newSession : Session
-newSession = record { stage = Idle; announced = 0; received = 0; kept = 0; active = false }
+newSession = record { announced = 0; received = 0; kept = 0; stage = 0; active = 0 }
 
-abbrev pub isOffered : Stage → Bool
-isOffered Idle = false
-isOffered Offered = true
+-- stage 0 is none, 1 is offered; active is 0 or 1
+abbrev pub isOffered : Session → Bool
+isOffered s = eqb (s .stage) 1
+
+abbrev pub isActive : Session → Bool
+isActive s = eqb (s .active) 1
 
 -- a stage's end sets the announced size and what was received to 0 with it
 abbrev pub ended : Session → Session
-ended s = record { stage = Idle; announced = 0; received = 0; kept = s .kept; active = s .active }
+ended s = record { announced = 0; received = 0; kept = s .kept; stage = 0; active = s .active }
 
--- the values that can't arise: a size over 65,535, an offer of nothing, more received than announced, a pool active that is
--- not kept, or traces of an offer at stage none
+-- the values that can't arise: a number that is no stage or says neither active nor not, a size over 65,535, an offer of nothing,
+-- more received than announced, a pool active that is not kept, or traces of an offer at stage none
 unfoldable pub impossible : Session → Bool
 impossible s =
-    ((((((ltb 65535 (s .announced) || ltb 65535 (s .kept))
-    || (isOffered (s .stage) && eqb (s .announced) 0)))
+    (((((ltb 1 (s .stage) || ltb 1 (s .active))
+    || (ltb 65535 (s .announced) || ltb 65535 (s .kept)))
+    || (isOffered s && eqb (s .announced) 0))
     || ltb (s .announced) (s .received))
-    || (s .active && eqb (s .kept) 0)))
-    || (not (isOffered (s .stage)) && (not (eqb (s .announced) 0) || not (eqb (s .received) 0)))
+    || (isActive s && eqb (s .kept) 0))
+    || (not (isOffered s) && (not (eqb (s .announced) 0) || not (eqb (s .received) 0)))
 
 -- the value that a call returns, and its reply
 pub record Told : Type 0 where
@@ -63,16 +65,16 @@ offerOf s size ls lk =
     judged s
     (choose (eqb size 0 || ltb 65535 size) (refused s 20)
     (choose (ltb ls size || ltb lk size) (refused s 26)
-    (done (record { stage = Offered; announced = size; received = 0; kept = s .kept; active = s .active }))))
+    (done (record { announced = size; received = 0; kept = s .kept; stage = 1; active = s .active }))))
 
 -- transferring a piece into staging of ls bytes
 unfoldable pub transferOf : Session → List ℕ → ℕ → Told
 transferOf s piece ls =
     judged s
-    (choose (not (isOffered (s .stage))) (refused s 21)
+    (choose (not (isOffered s)) (refused s 21)
     (choose (eqb (length piece) 0 || ltb (s .announced - s .received) (length piece)) (refused s 22)
     (choose (ltb ls (s .announced)) (refused s 26)
-    (done (record { stage = Offered; announced = s .announced; received = s .received + length piece; kept = s .kept; active = s .active })))))
+    (done (record { announced = s .announced; received = s .received + length piece; kept = s .kept; stage = 1; active = s .active })))))
 
 -- staging then has the piece from received on, unless it was refused
 unfoldable pub stagingAfter : Session → List ℕ → List ℕ → List ℕ
@@ -84,11 +86,11 @@ stagingAfter s piece staging =
 unfoldable pub deactivateOf : Session → Told
 deactivateOf s =
     judged s
-    (choose (not (s .active)) (refused s 25)
-    (done (record { stage = s .stage; announced = s .announced; received = s .received; kept = s .kept; active = false })))
+    (choose (eqb (s .active) 0) (refused s 25)
+    (done (record { announced = s .announced; received = s .received; kept = s .kept; stage = s .stage; active = 0 })))
 
 unfoldable pub deleteOf : Session → Told
 deleteOf s = judged s (done newSession)
 
 unfoldable pub lostOf : Session → Told
-lostOf s = judged s (done (record { stage = Idle; announced = 0; received = 0; kept = s .kept; active = false }))
+lostOf s = judged s (done (record { announced = 0; received = 0; kept = s .kept; stage = 0; active = 0 }))

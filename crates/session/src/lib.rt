@@ -1,21 +1,18 @@
 // One client's session: a pool is offered and transferred in pieces; `activation` activates it. The session is a value that each
-// call takes and returns; the bytes are in two areas that the caller lends.
+// call takes and returns; the bytes are in two areas that the caller lends. A C caller holds the same value, so it is numbers alone.
 ghost use mathlib.Core.Path.{_≡_};
 ghost use lib.ListN.{length};
 ghost use Rattle.session.specs.Answers.{reply, replyOf, replyIn};
 ghost use Rattle.session.specs.Calls.{isOffered, newSession, ended, impossible, stepOf, offerOf, transferOf, stagingAfter, deactivateOf, deleteOf, lostOf};
 
-pub enum Stage {
-    Idle,
-    Offered,
-}
-
+// Stage 0 is none and 1 offered; active is 0 or 1. Any other number makes a value that can't arise.
+#[repr(C)]
 pub struct Session {
-    pub stage: Stage,
-    pub announced: usize,
-    pub received: usize,
-    pub kept: usize,
-    pub active: bool,
+    pub announced: u32,
+    pub received: u32,
+    pub kept: u32,
+    pub stage: u16,
+    pub active: u16,
 }
 
 // What a call answers. The refusals stand in the order of their numbers: 3 to 7 from reading the pool, then 20 to 27.
@@ -54,20 +51,11 @@ pub fn new() -> Session
     ensures { λ r. ⌜ r ≡ newSession ⌝ }
 {
     Session {
-        stage: Stage::Idle,
         announced: 0,
         received: 0,
         kept: 0,
-        active: false,
-    }
-}
-
-pub fn is_offered(stage: Stage) -> bool
-    ensures { λ r. ⌜ r ≡ isOffered stage ⌝ }
-{
-    match stage {
-        Stage::Idle => false,
-        Stage::Offered => true,
+        stage: 0,
+        active: 0,
     }
 }
 
@@ -75,14 +63,14 @@ pub fn is_offered(stage: Stage) -> bool
 pub fn is_impossible(s: Session) -> bool
     ensures { λ r. ⌜ r ≡ impossible s ⌝ }
 {
-    let stage = s.stage;
-    let offered = is_offered(stage);
+    let offered = s.stage == 1;
+    let unknown = (1 < s.stage) | (1 < s.active);
     let too_large = (65535 < s.announced) | (65535 < s.kept);
     let empty_offer = offered & (s.announced == 0);
     let too_much = s.announced < s.received;
-    let nothing_active = s.active & (s.kept == 0);
+    let nothing_active = (s.active == 1) & (s.kept == 0);
     let unoffered = !offered & ((s.announced != 0) | (s.received != 0));
-    too_large | empty_offer | too_much | nothing_active | unoffered
+    unknown | too_large | empty_offer | too_much | nothing_active | unoffered
 }
 
 pub fn refuse(s: Session, answer: Answer) -> Step
@@ -96,10 +84,10 @@ pub fn end_stage(s: Session) -> Session
     ensures { λ r. ⌜ r ≡ ended s ⌝ }
 {
     Session {
-        stage: Stage::Idle,
         announced: 0,
         received: 0,
         kept: s.kept,
+        stage: 0,
         active: s.active,
     }
 }
@@ -119,10 +107,10 @@ pub fn offer(s: Session, size: usize, staging: &[u8], kept: &[u8]) -> Step
     }
     Step {
         session: Session {
-            stage: Stage::Offered,
-            announced: size,
+            announced: size as u32,
             received: 0,
             kept: s.kept,
+            stage: 1,
             active: s.active,
         },
         answer: Answer::Done,
@@ -136,24 +124,24 @@ pub fn transfer(s: Session, piece: &[u8], staging: &mut [u8]) -> Step
     if is_impossible(s) {
         return refuse(s, Answer::CannotArise);
     }
-    let stage = s.stage;
-    if !is_offered(stage) {
+    if s.stage != 1 {
         return refuse(s, Answer::NotOffered);
     }
-    let received = s.received;
-    if (piece.len() == 0) | (s.announced - received < piece.len()) {
+    let announced = s.announced as usize;
+    let received = s.received as usize;
+    if (piece.len() == 0) | (announced - received < piece.len()) {
         return refuse(s, Answer::BadPiece);
     }
-    if staging.len() < s.announced {
+    if staging.len() < announced {
         return refuse(s, Answer::NoRoom);
     }
     wire::copy(piece, &mut staging[received..], 0);
     Step {
         session: Session {
-            stage: Stage::Offered,
             announced: s.announced,
-            received: received + piece.len(),
+            received: (received + piece.len()) as u32,
             kept: s.kept,
+            stage: 1,
             active: s.active,
         },
         answer: Answer::Done,
@@ -166,17 +154,16 @@ pub fn deactivate(s: Session) -> Step
     if is_impossible(s) {
         return refuse(s, Answer::CannotArise);
     }
-    if !s.active {
+    if s.active == 0 {
         return refuse(s, Answer::NotActive);
     }
-    let stage = s.stage;
     Step {
         session: Session {
-            stage,
             announced: s.announced,
             received: s.received,
             kept: s.kept,
-            active: false,
+            stage: s.stage,
+            active: 0,
         },
         answer: Answer::Done,
     }
@@ -204,11 +191,11 @@ pub fn lost(s: Session) -> Step
     }
     Step {
         session: Session {
-            stage: Stage::Idle,
             announced: 0,
             received: 0,
             kept: s.kept,
-            active: false,
+            stage: 0,
+            active: 0,
         },
         answer: Answer::Done,
     }

@@ -1,5 +1,5 @@
 -- `lachsbrille_text`, at a list of either length. Assumes nothing.
-use Rattle.working_table.proofs.Over.{_≡_, refl, sym, subst, List, [], _∷_, ℕ, length, replicate, URA, fullShare, Name, Fn, SProp, emp, Model, Routines, Heap, Closed, factI, GhostRules, Running, givenOf, tables, tripleOf, Contract, Triple, cited, Line, Carried, struct-of, uint-of, list-typed, made, R, Size, pTy, tTy, fill-lines, Rest, Over, fills-over, named, mut, erased, w64, tyInt, tyRef, plain, mutRefTo, usize, mut-tells, yes, ref, refers, w32, w16, u16, vint, has, uint-tells, uint-lawful}
+use Rattle.working_table.proofs.Over.{_≡_, refl, sym, subst, List, [], _∷_, ℕ, length, replicate, URA, fullShare, Name, Fn, SProp, emp, Model, Routines, Heap, Closed, factI, GhostRules, Running, givenOf, tables, tripleOf, Contract, Triple, cited, Line, Carried, struct-of, uint-of, list-typed, made, R, Size, pTy, tTy, fill-lines, Rest, Over, fills-over, named, mut, erased, w64, tyInt, tyRef, plain, mutRefTo, usize, mut-tells, yes, ref, refers, w32, vint, has, uint-tells, uint-lawful, u32}
 use Rattle.working_table.proofs.gather.Symbol as gather-def
 use Rattle.pool.specs.Walk.{Listed}
 use Rattle.checker.specs.Checking.{countOf}
@@ -22,14 +22,14 @@ abbrev text : ℕ → List Line
 text = fill-lines 5 2 (refers 11 4 (tyInt w64) ∷ refers 12 5 (tyInt w64) ∷ []) (3 ∷ 11 ∷ 12 ∷ []) core-def.name count-def.name answer-def.name
 
 abbrev coded : ℕ → Fn
-coded N = made R 4 5 (tyInt w32) (pTy ∷ tTy ∷ tyInt w16 ∷ tyRef (named 2) mut (tyInt w64) ∷ tyRef (named 3) mut (tyInt w64) ∷ []) D′.mir (tyRef erased mut (tyInt w64) ∷ tyRef erased mut (tyInt w64) ∷ []) N (text N)
+coded N = made R 4 5 (tyInt w32) (pTy ∷ tTy ∷ tyInt w32 ∷ tyRef (named 2) mut (tyInt w64) ∷ tyRef (named 3) mut (tyInt w64) ∷ []) D′.mir (tyRef erased mut (tyInt w64) ∷ tyRef erased mut (tyInt w64) ∷ []) N (text N)
 
 abbrev pub query : Rest 2
 query = record {
-  slots = plain (λ _. u16) ∷ mutRefTo (2 ∷ []) tt (plain (λ _. usize)) ∷ mutRefTo (3 ∷ []) tt (plain (λ _. usize)) ∷ [];
+  slots = plain (λ _. u32) ∷ mutRefTo (2 ∷ []) tt (plain (λ _. usize)) ∷ mutRefTo (3 ∷ []) tt (plain (λ _. usize)) ∷ [];
   kept = (yes, (yes, (yes, tt)));
-  holds = λ κs. (λ n. has (vint w16 n), (λ x. ref (x .ptr .0) (x .ptr .1), (λ x. ref (x .ptr .0) (x .ptr .1), tt)));
-  tells = λ κs. (uint-tells w16, (mut-tells (named 2) (κs .1 .1 .0) usize, (mut-tells (named 3) (κs .1 .1 .1 .0) usize, tt)));
+  holds = λ κs. (λ n. has (vint w32 n), (λ x. ref (x .ptr .0) (x .ptr .1), (λ x. ref (x .ptr .0) (x .ptr .1), tt)));
+  tells = λ κs. (uint-tells w32, (mut-tells (named 2) (κs .1 .1 .0) usize, (mut-tells (named 3) (κs .1 .1 .1 .0) usize, tt)));
 }
 
 module _ {M : Type 1} (𝓤 : URA M) (H : Heap 𝓤) (𝓜 : Model 𝓤 H) (𝓖 : GhostRules 𝓤 H) (𝓡 : Running 𝓤 H 𝓜) where
@@ -50,7 +50,7 @@ module _ {M : Type 1} (𝓤 : URA M) (H : Heap 𝓤) (𝓜 : Model 𝓤 H) (𝓖
       fills-over 𝓤 H 𝓜 𝓖 𝓡 told number 2 query (λ κs a. this.clauses 𝓤 H A (𝓜 .mem) (𝓡 .run) κs a .ensures tt) env name (coded (s .numbers)) closed
       (λ κs p room c d zs out. Gives p room (c .0) (d .number) (out .1 .0 .now) (out .1 .1 .0 .now) × (d .records ≡ countOf p room) × Listed p room zs) (λ d. d .records) (λ d r. r ≡ d .number) s core-def.name count-def.name answer-def.name (text (s .numbers)) refl
       (λ κs qs a are l₀ l₁ l₂ l₃ l₄ l₅ l₆ l₇ l₈ l₉ l₁₀ l₁₁ l₁₂ l₁₃ l₁₄ l₁₅ l₁₆ l₁₇. (
-        ((tt, (tt, (tt, (record { fits = are .0 .0 .1 .0 }, tt)))), ((tt, (tt, (tt, (record { fits = are .1 .0 .0 .1 .0 }, tt)))), ((tt, uint-lawful 𝓤 H (𝓖 .A) (givenOf 𝓤 H 𝓜 𝓖) w16 .typed (a .1 .1 .0) _ (are .1 .1 .0) .0), ((tt, (tt, tt)), ((tt, (tt, tt)), tt))))),
+        ((tt, (tt, (tt, (record { fits = are .0 .0 .1 .0 }, tt)))), ((tt, (tt, (tt, (record { fits = are .1 .0 .0 .1 .0 }, tt)))), ((tt, uint-lawful 𝓤 H (𝓖 .A) (givenOf 𝓤 H 𝓜 𝓖) w32 .typed (a .1 .1 .0) _ (are .1 .1 .0) .0), ((tt, (tt, tt)), ((tt, (tt, tt)), tt))))),
         (tt, tt, list-typed 𝓤 H A (givenOf 𝓤 H 𝓜 𝓖) (s .numbers), (refl, refl, tt, tt, (s .fits, tt, tt, refl, tt, tt, (refl, tt, tt, (refl, tt, tt, (tt, (_, tt, λ r. (s .fits, tt, tt, refl, tt, tt, (_, tt, λ r₁. (refl, refl, tt, tt, refl, refl, tt, tt, (_, tt, λ r₂ v. (_, tt, λ r₃. (tt, _))))))))))))),
         (l₆, refl),
       ))

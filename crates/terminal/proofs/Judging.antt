@@ -1,5 +1,5 @@
 -- `lachsbrille_judge`, at a list of either length. Assumes nothing.
-use Rattle.working_table.proofs.Over.{_≡_, refl, sym, subst, List, [], _∷_, ℕ, length, replicate, URA, fullShare, Name, Fn, SProp, emp, Model, Routines, Heap, Closed, factI, GhostRules, Running, givenOf, tables, tripleOf, Contract, Triple, cited, Line, Carried, struct-of, uint-of, list-typed, made, R, Size, pTy, tTy, fill-lines, Rest, Over, fills-over, named, mut, erased, w64, tyInt, tyRef, plain, mutRefTo, usize, mut-tells, yes, ref, refers, w32, _∙_, _≤_, w8, w16, u8, u16, vint, has, uint-tells, uint-lawful}
+use Rattle.working_table.proofs.Over.{_≡_, refl, sym, subst, List, [], _∷_, ℕ, length, replicate, URA, fullShare, Name, Fn, SProp, emp, Model, Routines, Heap, Closed, factI, GhostRules, Running, givenOf, tables, tripleOf, Contract, Triple, cited, Line, Carried, struct-of, uint-of, list-typed, made, R, Size, pTy, tTy, fill-lines, Rest, Over, fills-over, named, mut, erased, w64, tyInt, tyRef, plain, mutRefTo, usize, mut-tells, yes, ref, refers, w32, _∙_, _≤_, w8, w16, u8, u16, vint, has, uint-tells, uint-lawful, u32}
 use Rattle.working_table.proofs.gather.Symbol as gather-def
 use denote.Builtin.{i32}
 use denote.Signed.{sint-vals, sint-tells, sint-lawful}
@@ -25,14 +25,14 @@ abbrev text : ℕ → List Line
 text = fill-lines 7 1 (refers 13 7 (tyInt w8) ∷ []) (3 ∷ 4 ∷ 5 ∷ 6 ∷ 13 ∷ []) core-def.name count-def.name answer-def.name
 
 abbrev coded : ℕ → Fn
-coded N = made R 3 7 (tyInt w32) (pTy ∷ tTy ∷ tyInt w8 ∷ tyInt w16 ∷ tyInt w16 ∷ tyInt w32 ∷ tyRef (named 2) mut (tyInt w8) ∷ []) D′.mir (tyRef erased mut (tyInt w8) ∷ []) N (text N)
+coded N = made R 3 7 (tyInt w32) (pTy ∷ tTy ∷ tyInt w32 ∷ tyInt w32 ∷ tyInt w16 ∷ tyInt w32 ∷ tyRef (named 2) mut (tyInt w8) ∷ []) D′.mir (tyRef erased mut (tyInt w8) ∷ []) N (text N)
 
 abbrev pub command : Rest 1
 command = record {
-  slots = plain (λ _. u8) ∷ plain (λ _. u16) ∷ plain (λ _. u16) ∷ plain (λ _. i32) ∷ mutRefTo (2 ∷ []) tt (plain (λ _. u8)) ∷ [];
+  slots = plain (λ _. u32) ∷ plain (λ _. u32) ∷ plain (λ _. u16) ∷ plain (λ _. i32) ∷ mutRefTo (2 ∷ []) tt (plain (λ _. u8)) ∷ [];
   kept = (yes, (yes, (yes, (yes, (yes, tt)))));
-  holds = λ κs. (λ n. has (vint w8 n), (λ n. has (vint w16 n), (λ n. has (vint w16 n), (λ x. has (only (sint-vals w32 x)), (λ x. ref (x .ptr .0) (x .ptr .1), tt)))));
-  tells = λ κs. (uint-tells w8, (uint-tells w16, (uint-tells w16, (sint-tells w32, (mut-tells (named 2) (κs .1 .1 .0) u8, tt)))));
+  holds = λ κs. (λ n. has (vint w32 n), (λ n. has (vint w32 n), (λ n. has (vint w16 n), (λ x. has (only (sint-vals w32 x)), (λ x. ref (x .ptr .0) (x .ptr .1), tt)))));
+  tells = λ κs. (uint-tells w32, (uint-tells w32, (uint-tells w16, (sint-tells w32, (mut-tells (named 2) (κs .1 .1 .0) u8, tt)))));
 }
 
 module _ {M : Type 1} (𝓤 : URA M) (H : Heap 𝓤) (𝓜 : Model 𝓤 H) (𝓖 : GhostRules 𝓤 H) (𝓡 : Running 𝓤 H 𝓜) where
@@ -53,7 +53,7 @@ module _ {M : Type 1} (𝓤 : URA M) (H : Heap 𝓤) (𝓜 : Model 𝓤 H) (𝓖
       fills-over 𝓤 H 𝓜 𝓖 𝓡 told number 1 command (λ κs a. this.clauses 𝓤 H A (𝓜 .mem) (𝓡 .run) κs a .ensures tt) env name (coded (s .numbers)) closed
       (λ κs p room c d zs out. (d .number ≡ judgeNumber p room (c .1 .0)) × (out .1 .1 .1 .1 .0 .now ≡ judgeError p room (c .0) (c .1 .0) (c .1 .1 .0) (c .1 .1 .1 .0)) × (d .records ≡ judgedCount p room (c .1 .0)) × (c .1 .0 ≤ 4095 → Listed p room zs)) (λ d. d .records) (λ d r. r ≡ d .number) s core-def.name count-def.name answer-def.name (text (s .numbers)) refl
       (λ κs qs a are l₀ l₁ l₂ l₃ l₄ l₅ l₆ l₇ l₈ l₉ l₁₀ l₁₁ l₁₂ l₁₃ l₁₄ l₁₅ l₁₆ l₁₇ l₁₈. (
-        ((tt, (tt, (tt, (record { fits = are .0 .0 .1 .0 }, tt)))), ((tt, (tt, (tt, (record { fits = are .1 .0 .0 .1 .0 }, tt)))), ((tt, uint-lawful 𝓤 H (𝓖 .A) (givenOf 𝓤 H 𝓜 𝓖) w8 .typed (a .1 .1 .0) _ (are .1 .1 .0) .0), ((tt, uint-lawful 𝓤 H (𝓖 .A) (givenOf 𝓤 H 𝓜 𝓖) w16 .typed (a .1 .1 .1 .0) _ (are .1 .1 .1 .0) .0), ((tt, uint-lawful 𝓤 H (𝓖 .A) (givenOf 𝓤 H 𝓜 𝓖) w16 .typed (a .1 .1 .1 .1 .0) _ (are .1 .1 .1 .1 .0) .0), ((tt, sint-lawful 𝓤 H (𝓖 .A) (givenOf 𝓤 H 𝓜 𝓖) w32 .typed (a .1 .1 .1 .1 .1 .0) _ (are .1 .1 .1 .1 .1 .0) .0), ((tt, (tt, tt)), tt))))))),
+        ((tt, (tt, (tt, (record { fits = are .0 .0 .1 .0 }, tt)))), ((tt, (tt, (tt, (record { fits = are .1 .0 .0 .1 .0 }, tt)))), ((tt, uint-lawful 𝓤 H (𝓖 .A) (givenOf 𝓤 H 𝓜 𝓖) w32 .typed (a .1 .1 .0) _ (are .1 .1 .0) .0), ((tt, uint-lawful 𝓤 H (𝓖 .A) (givenOf 𝓤 H 𝓜 𝓖) w32 .typed (a .1 .1 .1 .0) _ (are .1 .1 .1 .0) .0), ((tt, uint-lawful 𝓤 H (𝓖 .A) (givenOf 𝓤 H 𝓜 𝓖) w16 .typed (a .1 .1 .1 .1 .0) _ (are .1 .1 .1 .1 .0) .0), ((tt, sint-lawful 𝓤 H (𝓖 .A) (givenOf 𝓤 H 𝓜 𝓖) w32 .typed (a .1 .1 .1 .1 .1 .0) _ (are .1 .1 .1 .1 .1 .0) .0), ((tt, (tt, tt)), tt))))))),
         (tt, tt, list-typed 𝓤 H A (givenOf 𝓤 H 𝓜 𝓖) (s .numbers), (refl, refl, tt, tt, (s .fits, tt, tt, refl, tt, tt, (refl, tt, tt, (tt, (_, tt, λ r. (s .fits, tt, tt, refl, tt, tt, (_, tt, λ r₁. (refl, refl, tt, tt, refl, refl, tt, tt, (_, tt, λ r₂ v. (_, tt, λ r₃. (tt, _)))))))))))),
         (l₈, refl),
       ))

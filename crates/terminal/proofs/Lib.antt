@@ -1,5 +1,4 @@
 -- What belongs to no one function.
-pub mod Known
 pub mod Reading
 pub mod Checking
 pub mod Finding

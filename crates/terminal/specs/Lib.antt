@@ -1,4 +1,3 @@
 -- What the contracts of `terminal` cite.
 pub mod Texts
-pub mod Tables
 pub mod Display

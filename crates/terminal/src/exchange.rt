@@ -21,8 +21,8 @@ pub extern "C" fn lachsbrille_message_read(bytes: &[u8]) -> MessageFields
 #[no_mangle]
 pub extern "C" fn lachsbrille_message_write_value(
     to: &mut [u8],
-    command: u8,
-    element: u16,
+    command: u32,
+    element: u32,
     ddi: u16,
     value: i32,
 ) -> u32
@@ -35,10 +35,10 @@ pub extern "C" fn lachsbrille_message_write_value(
 #[no_mangle]
 pub extern "C" fn lachsbrille_message_write_acknowledge(
     to: &mut [u8],
-    element: u16,
+    element: u32,
     ddi: u16,
     errors: u8,
-    answered: u8,
+    answered: u32,
 ) -> u32
     ensures { λ r. ⌜ (r ≡ acknowledgeRefusal element answered (length (now (to .entry)))) × (now (to .exit) ≡ acknowledgeAfter (now (to .entry)) element ddi errors answered) ⌝ }
 {
@@ -50,8 +50,8 @@ pub extern "C" fn lachsbrille_message_write_acknowledge(
 pub extern "C" fn lachsbrille_judge(
     p: &[u8],
     table: &mut [Record],
-    command: u8,
-    element: u16,
+    command: u32,
+    element: u32,
     ddi: u16,
     value: i32,
     error: &mut u8,

@@ -6,6 +6,7 @@ use working_table::Record;
 pub mod display;
 pub mod exchange;
 pub mod logs;
+pub mod objects;
 mod pools;
 pub mod sessions;
 
@@ -18,6 +19,14 @@ ghost use Rattle.checker.specs.Checking.{checkOf, faultsAfter};
 ghost use Rattle.device.specs.Queries.{Labelled};
 ghost use Rattle.answers.specs.Numbers.{Says};
 ghost use Rattle.terminal.specs.Texts.{Gives};
+
+// The release: major * 10,000 + minor * 100 + patch.
+#[no_mangle]
+pub extern "C" fn lachsbrille_version() -> u32
+    ensures { λ r. ⌜ r ≡ 10000 ⌝ }
+{
+    10000
+}
 
 // Reads a pool into the table: the count of records or the refusal's place goes into the lent number.
 #[no_mangle]
@@ -59,7 +68,7 @@ pub extern "C" fn lachsbrille_text_is_sound(s: &[u8]) -> bool
 pub extern "C" fn lachsbrille_text(
     p: &[u8],
     table: &mut [Record],
-    id: u16,
+    id: u32,
     from: &mut usize,
     to: &mut usize,
 ) -> u32

@@ -1,8 +1,8 @@
 // What the C functions over the table are made of. A pool is looked at once, with a list of its records' starts; the answer goes out as
 // numbers, and the table is filled by that list. There is a list for a pool of at most 12,276 bytes, and one for every pool: a record has
 // at least 12 bytes, and the end of the last stands behind the starts.
-use client::ClientSession;
-use client::ClientStep;
+use answers::StepFields;
+use session::Session;
 use working_table::Record;
 ghost use mathlib.Core.Path.{_≡_};
 ghost use Prim.Native.Nat.{_≤_};
@@ -16,7 +16,7 @@ ghost use Rattle.judging.specs.Parts.{judgedCount};
 ghost use Rattle.commands.specs.Tables.{judgedRecords};
 ghost use Rattle.activation.specs.Activating.{activateOf, keptAfter};
 ghost use Rattle.activation.specs.Rows.{recordsFor, ListsFor};
-ghost use Rattle.client.specs.Sessions.{valueOf, outcome, left, sessionIn};
+ghost use Rattle.answers.specs.Steps.{stepIn};
 ghost use Rattle.answers.specs.Numbers.{Says};
 ghost use Rattle.terminal.specs.Texts.{Gives};
 
@@ -73,7 +73,7 @@ pub fn text_told(
     p: &[u8],
     room: usize,
     starts: &mut [u16],
-    id: u16,
+    id: u32,
     from: &mut usize,
     to: &mut usize,
 ) -> Told
@@ -92,8 +92,8 @@ pub fn judge_told(
     p: &[u8],
     room: usize,
     starts: &mut [u16],
-    command: u8,
-    element: u16,
+    command: u32,
+    element: u32,
     ddi: u16,
     value: i32,
     error: &mut u8,
@@ -112,7 +112,7 @@ pub fn judge_told(
 // What activating answers, beside how many entries of the table are then filled.
 pub struct Stepped {
     pub records: usize,
-    pub step: ClientStep,
+    pub step: StepFields,
 }
 
 pub fn stepped_records(stepped: Stepped) -> usize
@@ -121,29 +121,28 @@ pub fn stepped_records(stepped: Stepped) -> usize
     stepped.records
 }
 
-pub fn stepped_step(stepped: Stepped) -> ClientStep
+pub fn stepped_step(stepped: Stepped) -> StepFields
     ensures { λ r. ⌜ r ≡ stepped .step ⌝ }
 {
     stepped.step
 }
 
-// Activates for a C caller's value: one with an unknown stage or mark is refused before a pool is looked at.
+// Activates: the step goes out as numbers.
 pub fn activate_told(
-    v: ClientSession,
+    s: Session,
     staging: &[u8],
     kept: &mut [u8],
     room: usize,
     starts: &mut [u16],
 ) -> Stepped
-    requires { ⌜ Reaches (now starts) (take (sessionIn v .announced) (now staging)) ⌝ }
-    ensures { λ r. ⌜ (r .step ≡ outcome v (activateOf (valueOf v) (now (staging .entry)) (length (now (kept .entry))) room)) × (now (kept .exit) ≡ left v (keptAfter (valueOf v) (now (staging .entry)) (now (kept .entry)) room) (now (kept .entry))) × (r .records ≡ recordsFor (sessionIn v) (now (staging .entry)) (length (now (kept .entry))) room) × ListsFor (sessionIn v) (now (staging .entry)) (length (now (kept .entry))) room (now (starts .exit)) ⌝ }
+    requires { ⌜ Reaches (now starts) (take (s .announced) (now staging)) ⌝ }
+    ensures { λ r. ⌜ (stepIn (r .step) ≡ activateOf s (now (staging .entry)) (length (now (kept .entry))) room) × (now (kept .exit) ≡ keptAfter s (now (staging .entry)) (now (kept .entry)) room) × (r .records ≡ recordsFor s (now (staging .entry)) (length (now (kept .entry))) room) × ListsFor s (now (staging .entry)) (length (now (kept .entry))) room (now (starts .exit)) ⌝ }
 {
-    let s = client::session_of(v);
     let activated = activation::activate_in(s, staging, kept, room, starts);
     let step = activation::activated_step(activated);
     Stepped {
         records: activation::activated_records(activated),
-        step: client::give_client(v, step),
+        step: answers::give_step(step),
     }
 }
 
@@ -186,7 +185,7 @@ pub fn check_long(p: &[u8], table: &mut [Record], faults: &mut [u16], value: &mu
     told_number(told)
 }
 
-pub fn text_short(p: &[u8], table: &mut [Record], id: u16, from: &mut usize, to: &mut usize) -> u32
+pub fn text_short(p: &[u8], table: &mut [Record], id: u32, from: &mut usize, to: &mut usize) -> u32
     requires { ⌜ length (now p) ≤ 12276 ⌝ }
     ensures { λ r. ⌜ Gives (now (p .entry)) (length (now (table .entry))) id r (now (from .exit)) (now (to .exit)) × (now (table .exit) ≡ recordsAfter (now (p .entry)) (now (table .entry))) ⌝ }
 {
@@ -196,7 +195,7 @@ pub fn text_short(p: &[u8], table: &mut [Record], id: u16, from: &mut usize, to:
     told_number(told)
 }
 
-pub fn text_long(p: &[u8], table: &mut [Record], id: u16, from: &mut usize, to: &mut usize) -> u32
+pub fn text_long(p: &[u8], table: &mut [Record], id: u32, from: &mut usize, to: &mut usize) -> u32
     ensures { λ r. ⌜ Gives (now (p .entry)) (length (now (table .entry))) id r (now (from .exit)) (now (to .exit)) × (now (table .exit) ≡ recordsAfter (now (p .entry)) (now (table .entry))) ⌝ }
 {
     let mut starts = [0u16; 5462];
@@ -208,8 +207,8 @@ pub fn text_long(p: &[u8], table: &mut [Record], id: u16, from: &mut usize, to: 
 pub fn judge_short(
     p: &[u8],
     table: &mut [Record],
-    command: u8,
-    element: u16,
+    command: u32,
+    element: u32,
     ddi: u16,
     value: i32,
     error: &mut u8,
@@ -235,8 +234,8 @@ pub fn judge_short(
 pub fn judge_long(
     p: &[u8],
     table: &mut [Record],
-    command: u8,
-    element: u16,
+    command: u32,
+    element: u32,
     ddi: u16,
     value: i32,
     error: &mut u8,

@@ -1,5 +1,5 @@
 -- `commands::judge` meets its contract: the pool's length picks one of two functions that have it (`Judging.antt`). Assumes nothing.
-use Rattle.working_table.proofs.Over.{refl, [], _∷_, cited, givenOf, w8, w16, w32, uint-lawful, asks, short, long, lends-table, picks-over}
+use Rattle.working_table.proofs.Over.{refl, [], _∷_, cited, givenOf, w16, w32, uint-lawful, asks, short, long, lends-table, picks-over}
 use denote.Signed.{sint-lawful}
 use Rattle.commands.proofs.Judging.{command, judged, judgement, Judging}
 use Rattle.commands.proofs.judge_short.Symbol as short-def
@@ -17,7 +17,7 @@ judge-spec 𝓤 H 𝓜 𝓖 𝓡 =
     picks-over 𝓤 H 𝓜 𝓖 𝓡 (judged 𝓤 H 𝓜 𝓖 𝓡) (judgement 𝓤 H 𝓜 𝓖 𝓡) 0 command (λ κs a. judge.clauses 𝓤 H (𝓖 .A) (𝓜 .mem) (𝓡 .run) κs a .ensures tt) code.env name code.function (code.unfolded 𝓤 H 𝓜 𝓡)
     6 short-def.name long-def.name (lends-table 9 10 ∷ asks short-def.name (1 ∷ 10 ∷ 3 ∷ 4 ∷ 5 ∷ 6 ∷ []) 0 ∷ []) (lends-table 11 12 ∷ asks long-def.name (1 ∷ 12 ∷ 3 ∷ 4 ∷ 5 ∷ 6 ∷ []) 0 ∷ []) refl
     (λ κs qs a are l₀ l₁ l₂ l₃ l₄ l₅ l₆ l₇ l₈ l₉ l₁₀ l₁₁ l₁₂. (
-      ((tt, (tt, (tt, (record { fits = are .0 .0 .1 .0 }, tt)))), ((tt, (tt, (tt, (record { fits = are .1 .0 .0 .1 .0 }, tt)))), ((tt, uint-lawful 𝓤 H (𝓖 .A) (givenOf 𝓤 H 𝓜 𝓖) w8 .typed (a .1 .1 .0) _ (are .1 .1 .0) .0), ((tt, uint-lawful 𝓤 H (𝓖 .A) (givenOf 𝓤 H 𝓜 𝓖) w16 .typed (a .1 .1 .1 .0) _ (are .1 .1 .1 .0) .0), ((tt, uint-lawful 𝓤 H (𝓖 .A) (givenOf 𝓤 H 𝓜 𝓖) w16 .typed (a .1 .1 .1 .1 .0) _ (are .1 .1 .1 .1 .0) .0), ((tt, sint-lawful 𝓤 H (𝓖 .A) (givenOf 𝓤 H 𝓜 𝓖) w32 .typed (a .1 .1 .1 .1 .1 .0) _ (are .1 .1 .1 .1 .1 .0) .0), tt)))))),
+      ((tt, (tt, (tt, (record { fits = are .0 .0 .1 .0 }, tt)))), ((tt, (tt, (tt, (record { fits = are .1 .0 .0 .1 .0 }, tt)))), ((tt, uint-lawful 𝓤 H (𝓖 .A) (givenOf 𝓤 H 𝓜 𝓖) w32 .typed (a .1 .1 .0) _ (are .1 .1 .0) .0), ((tt, uint-lawful 𝓤 H (𝓖 .A) (givenOf 𝓤 H 𝓜 𝓖) w32 .typed (a .1 .1 .1 .0) _ (are .1 .1 .1 .0) .0), ((tt, uint-lawful 𝓤 H (𝓖 .A) (givenOf 𝓤 H 𝓜 𝓖) w16 .typed (a .1 .1 .1 .1 .0) _ (are .1 .1 .1 .1 .0) .0), ((tt, sint-lawful 𝓤 H (𝓖 .A) (givenOf 𝓤 H 𝓜 𝓖) w32 .typed (a .1 .1 .1 .1 .1 .0) _ (are .1 .1 .1 .1 .1 .0) .0), tt)))))),
       refl,
       refl,
       tt,

@@ -27,6 +27,9 @@ loop-holds c = (omega arith, none-yet (idAt (entriesOf (c .before .before .args 
 id-at-requires : tie.Need-id-at-requires Inv-loop μ-loop
 id-at-requires c κs = (c .before .before .before .before .pre, omega (arith, c .loop-test .taken))
 
+cast-if1 : tie.Need-cast-if1 Inv-loop μ-loop
+cast-if1 c = omega (arith, c .id-at .ok)
+
 add-result : tie.Need-add-result Inv-loop μ-loop
 add-result c = omega (arith, c .before .before .loop-test .taken, starts-few (c .before .before .before .before .before .before .args .p .now) (c .before .before .before .before .before .before .args .starts .now) (c .before .before .before .before .before .before .pre))
 
@@ -67,6 +70,7 @@ first-with-spec =
     sub-count
     loop-holds
     id-at-requires
+    cast-if1
     add-result
     cast-result
     returns

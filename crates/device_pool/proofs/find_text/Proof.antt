@@ -1,5 +1,5 @@
 -- `device_pool::find_text` meets its contract: the pool's length picks one of two functions that have it (`Finding.antt`). Assumes nothing.
-use Rattle.working_table.proofs.Over.{refl, [], _∷_, cited, givenOf, w16, uint-lawful, asks, short, long, lends-table, picks-over}
+use Rattle.working_table.proofs.Over.{refl, [], _∷_, cited, givenOf, w32, uint-lawful, asks, short, long, lends-table, picks-over}
 use Rattle.device_pool.proofs.Finding.{id, found, place, Finding}
 use Rattle.device_pool.proofs.find_text_short.Symbol as short-def
 use Rattle.device_pool.proofs.find_text_short.Met as short-thm
@@ -16,7 +16,7 @@ find-text-spec 𝓤 H 𝓜 𝓖 𝓡 =
     picks-over 𝓤 H 𝓜 𝓖 𝓡 (found 𝓤 H 𝓜 𝓖 𝓡) (place 𝓤 H 𝓜 𝓖 𝓡) 0 id (λ κs a. find-text.clauses 𝓤 H (𝓖 .A) (𝓜 .mem) (𝓡 .run) κs a .ensures tt) code.env name code.function (code.unfolded 𝓤 H 𝓜 𝓡)
     3 short-def.name long-def.name (lends-table 6 7 ∷ asks short-def.name (1 ∷ 7 ∷ 3 ∷ []) 0 ∷ []) (lends-table 8 9 ∷ asks long-def.name (1 ∷ 9 ∷ 3 ∷ []) 0 ∷ []) refl
     (λ κs qs a are l₀ l₁ l₂ l₃ l₄ l₅ l₆ l₇ l₈ l₉. (
-      ((tt, (tt, (tt, (record { fits = are .0 .0 .1 .0 }, tt)))), ((tt, (tt, (tt, (record { fits = are .1 .0 .0 .1 .0 }, tt)))), ((tt, uint-lawful 𝓤 H (𝓖 .A) (givenOf 𝓤 H 𝓜 𝓖) w16 .typed (a .1 .1 .0) _ (are .1 .1 .0) .0), tt))),
+      ((tt, (tt, (tt, (record { fits = are .0 .0 .1 .0 }, tt)))), ((tt, (tt, (tt, (record { fits = are .1 .0 .0 .1 .0 }, tt)))), ((tt, uint-lawful 𝓤 H (𝓖 .A) (givenOf 𝓤 H 𝓜 𝓖) w32 .typed (a .1 .1 .0) _ (are .1 .1 .0) .0), tt))),
       refl,
       refl,
       tt,

@@ -44,6 +44,9 @@ slice-aggregate-judge-among c =
     let read = sym (ap answerOf (c .before .before .outcome .given .1)) ∙ c .before .before .before .before .before .before .list-for .ensures .0 in
     sym (length-take-le _ _ (among-room (a .p .now) (a .room) (a .command) (a .element) (a .ddi) (a .value) (c .before .before .before .before .before .before .before .before .if1 .left) _ _ read (c .before .before .before .before .before .before .list-for .ensures .1)))
 
+cast-judge-among : tie.Need-cast-judge-among
+cast-judge-among c = search needs
+
 judge-among-requires : tie.Need-judge-among-requires
 judge-among-requires c κs =
     let a = c .before .before .before .before .before .before .before .before .before .before .before .args in
@@ -90,6 +93,7 @@ judge-by-spec =
     add-end
     slice-reshare-prefix-judge-among
     slice-aggregate-judge-among
+    cast-judge-among
     judge-among-requires
     judgement-of-requires-2
     same-length

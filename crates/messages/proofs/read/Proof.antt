@@ -37,6 +37,9 @@ add-element c = record { fits = omega (arith, c .before .before .shared-slice-kn
 read-u16-requires : tie.Need-read-u16-requires
 read-u16-requires c κs = search needs
 
+cast-carries-value : tie.Need-cast-carries-value
+cast-carries-value c = search needs
+
 carries-value-requires : tie.Need-carries-value-requires
 carries-value-requires c κs = search needs
 
@@ -47,11 +50,11 @@ returns-2 : tie.Need-returns-2
 unfolding readOf
 returns-2 c = rw (eq-eqb _ _ (c .before .before .before .before .before .before .before .if1 .left), sym (c .before .before .carries-value .ensures) ∙ c .before .if2 .taken, toZ-ofZ w32 (c .read-i32 .result) (record { sfits = c .read-i32 .ok }), c .read-i32 .ensures, c .before .before .before .read-u16 .ensures)
 
-shared-slice-read-t19 : tie.Need-shared-slice-read-t19
-shared-slice-read-t19 c = search needs
+shared-slice-read-t20 : tie.Need-shared-slice-read-t20
+shared-slice-read-t20 c = search needs
 
-shared-slice-read-t21 : tie.Need-shared-slice-read-t21
-shared-slice-read-t21 c = search needs
+shared-slice-read-t22 : tie.Need-shared-slice-read-t22
+shared-slice-read-t22 c = search needs
 
 returns-3 : tie.Need-returns-3
 unfolding readOf
@@ -74,10 +77,11 @@ read-spec =
     mul-element
     add-element
     read-u16-requires
+    cast-carries-value
     carries-value-requires
     read-i32-requires
     returns-2
-    shared-slice-read-t19
-    shared-slice-read-t21
+    shared-slice-read-t20
+    shared-slice-read-t22
     returns-3
     returns-4)

@@ -23,8 +23,14 @@ returns-2 : tie.Need-returns-2
 unfolding acknowledgeRefusal acknowledgeAfter
 returns-2 c = rw (c .before .if1 .left, lt-ltb _ _ (c .if2 .taken)) (refl, refl)
 
+cast-put-head : tie.Need-cast-put-head
+cast-put-head c = record { fits = omega (arith, ltb-false 4095 (c .before .before .before .before .args .element) (neither (ltb 4095 (c .before .before .before .before .args .element)) (ltb 15 (c .before .before .before .before .args .answered)) (c .before .before .if1 .left) .0)) }
+
 put-head-requires : tie.Need-put-head-requires
 put-head-requires c κs = (c .before .if2 .left, omega arith, ltb-false 4095 (c .before .before .before .before .args .element) (neither (ltb 4095 (c .before .before .before .before .args .element)) (ltb 15 (c .before .before .before .before .args .answered)) (c .before .before .if1 .left) .0))
+
+cast-put-answer : tie.Need-cast-put-answer
+cast-put-answer c = record { fits = omega (arith, ltb-false 15 (c .before .before .before .before .before .before .before .before .args .answered) (neither (ltb 4095 (c .before .before .before .before .before .before .before .before .args .element)) (ltb 15 (c .before .before .before .before .before .before .before .before .args .answered)) (c .before .before .before .before .before .before .if1 .left) .1)) }
 
 put-answer-requires : tie.Need-put-answer-requires
 put-answer-requires c κs = (rw (c .before .before .before .put-head .ensures, length-sets (c .before .before .before .before .before .before .before .before .args .to .now) 0 (headBytes acknowledge (c .before .before .before .before .before .before .before .before .args .element) (c .before .before .before .before .before .before .before .before .args .ddi))) (c .before .before .before .before .before .if2 .left), ltb-false 15 (c .before .before .before .before .before .before .before .before .args .answered) (neither (ltb 4095 (c .before .before .before .before .before .before .before .before .args .element)) (ltb 15 (c .before .before .before .before .before .before .before .before .args .answered)) (c .before .before .before .before .before .before .if1 .left) .1))
@@ -39,4 +45,4 @@ returns-3 c = rw (c .before .before .before .before .before .before .before .bef
 pub write-acknowledge-spec : {M : Type 1} → statement M
 write-acknowledge-spec =
     tie.close
-    (tie.spec returns returns-2 put-head-requires put-answer-requires same-length returns-3)
+    (tie.spec returns returns-2 cast-put-head put-head-requires cast-put-answer put-answer-requires same-length returns-3)

@@ -30,6 +30,12 @@ returns-3 : tie.Need-returns-3
 unfolding valueRefusal valueAfter
 returns-3 c = rw (sym (c .before .before .before .carries-value .ensures) ∙ not-false _ (c .before .before .if1 .left), le-ltb _ _ (c .before .if2 .left), lt-ltb _ _ (c .if3 .taken)) (refl, refl)
 
+cast-put-head : tie.Need-cast-put-head
+cast-put-head c = record { fits = omega (arith, command-small (c .before .before .before .before .before .before .args .command) (sym (c .before .before .before .before .carries-value .ensures) ∙ not-false _ (c .before .before .before .if1 .left))) }
+
+cast-put-head-2 : tie.Need-cast-put-head-2
+cast-put-head-2 c = search needs
+
 put-head-requires : tie.Need-put-head-requires
 put-head-requires c κs = (c .before .if3 .left, command-small (c .before .before .before .before .before .before .args .command) (sym (c .before .before .before .before .carries-value .ensures) ∙ not-false _ (c .before .before .before .if1 .left)), c .before .before .if2 .left)
 
@@ -51,6 +57,8 @@ write-value-spec =
     returns
     returns-2
     returns-3
+    cast-put-head
+    cast-put-head-2
     put-head-requires
     write-i32-requires
     same-length

@@ -1,5 +1,9 @@
 -- `session::offer` meets its contract: each return is a case of the definition. Assumes nothing.
 use mathlib.Core.Path.{sym, _∙_}
+use native.Mathlib.Omega.{arith}
+use lib.Dec.{eqb, ltb}
+use borrow.Author.Tests.{ltb-false}
+use Rattle.wire.proofs.Either.{neither}
 use Rattle.session.specs.Calls.{offerOf}
 use borrow.Author.Needs.{needs}
 use Rattle.session.proofs.offer.Statement.{statement}
@@ -29,6 +33,9 @@ returns-3 : tie.Need-returns-3
 unfolding offerOf
 returns-3 c = rw (sym (c .before .before .before .before .is-impossible .ensures) ∙ c .before .before .before .if1 .left, c .before .before .if2 .left, c .before .if3 .taken) (c .refuse3 .ensures)
 
+cast-t14 : tie.Need-cast-t14
+cast-t14 c = record { fits = omega (arith, ltb-false 65535 (c .before .before .before .before .before .before .args .size) (neither (eqb (c .before .before .before .before .before .before .args .size) 0) (ltb 65535 (c .before .before .before .before .before .before .args .size)) (c .before .if2 .left) .1)) }
+
 returns-4 : tie.Need-returns-4
 unfolding offerOf
 returns-4 c = rw (sym (c .before .before .before .is-impossible .ensures) ∙ c .before .before .if1 .left, c .before .if2 .left, c .if3 .left)
@@ -44,4 +51,5 @@ offer-spec =
     returns-2
     refuse-requires-3
     returns-3
+    cast-t14
     returns-4)

@@ -17,7 +17,7 @@ lachsbrille-judge-spec 𝓤 H 𝓜 𝓖 𝓡 =
     picks-over 𝓤 H 𝓜 𝓖 𝓡 (told 𝓤 H 𝓜 𝓖 𝓡) (number 𝓤 H 𝓜 𝓖 𝓡) 1 command (λ κs a. this.clauses 𝓤 H (𝓖 .A) (𝓜 .mem) (𝓡 .run) κs a .ensures tt) code.env name code.function (code.unfolded 𝓤 H 𝓜 𝓡)
     7 short-def.name long-def.name (lends-table 10 11 ∷ refers 12 7 (tyInt w8) ∷ asks short-def.name (1 ∷ 11 ∷ 3 ∷ 4 ∷ 5 ∷ 6 ∷ 12 ∷ []) 0 ∷ []) (lends-table 13 14 ∷ refers 15 7 (tyInt w8) ∷ asks long-def.name (1 ∷ 14 ∷ 3 ∷ 4 ∷ 5 ∷ 6 ∷ 15 ∷ []) 0 ∷ []) refl
     (λ κs qs a are l₀ l₁ l₂ l₃ l₄ l₅ l₆ l₇ l₈ l₉ l₁₀ l₁₁ l₁₂ l₁₃ l₁₄ l₁₅. (
-      ((tt, (tt, (tt, (record { fits = are .0 .0 .1 .0 }, tt)))), ((tt, (tt, (tt, (record { fits = are .1 .0 .0 .1 .0 }, tt)))), ((tt, uint-lawful 𝓤 H (𝓖 .A) (givenOf 𝓤 H 𝓜 𝓖) w8 .typed (a .1 .1 .0) _ (are .1 .1 .0) .0), ((tt, uint-lawful 𝓤 H (𝓖 .A) (givenOf 𝓤 H 𝓜 𝓖) w16 .typed (a .1 .1 .1 .0) _ (are .1 .1 .1 .0) .0), ((tt, uint-lawful 𝓤 H (𝓖 .A) (givenOf 𝓤 H 𝓜 𝓖) w16 .typed (a .1 .1 .1 .1 .0) _ (are .1 .1 .1 .1 .0) .0), ((tt, sint-lawful 𝓤 H (𝓖 .A) (givenOf 𝓤 H 𝓜 𝓖) w32 .typed (a .1 .1 .1 .1 .1 .0) _ (are .1 .1 .1 .1 .1 .0) .0), ((tt, (tt, tt)), tt))))))),
+      ((tt, (tt, (tt, (record { fits = are .0 .0 .1 .0 }, tt)))), ((tt, (tt, (tt, (record { fits = are .1 .0 .0 .1 .0 }, tt)))), ((tt, uint-lawful 𝓤 H (𝓖 .A) (givenOf 𝓤 H 𝓜 𝓖) w32 .typed (a .1 .1 .0) _ (are .1 .1 .0) .0), ((tt, uint-lawful 𝓤 H (𝓖 .A) (givenOf 𝓤 H 𝓜 𝓖) w32 .typed (a .1 .1 .1 .0) _ (are .1 .1 .1 .0) .0), ((tt, uint-lawful 𝓤 H (𝓖 .A) (givenOf 𝓤 H 𝓜 𝓖) w16 .typed (a .1 .1 .1 .1 .0) _ (are .1 .1 .1 .1 .0) .0), ((tt, sint-lawful 𝓤 H (𝓖 .A) (givenOf 𝓤 H 𝓜 𝓖) w32 .typed (a .1 .1 .1 .1 .1 .0) _ (are .1 .1 .1 .1 .1 .0) .0), ((tt, (tt, tt)), tt))))))),
       refl,
       refl,
       tt,

@@ -1,21 +1,17 @@
--- `terminal::sessions::lachsbrille_session_delete` meets its contract: the call's outcome. Assumes nothing.
-use Rattle.session.specs.Calls.{deleteOf}
-use Rattle.client.proofs.Known.{given-in}
+-- `terminal::sessions::lachsbrille_session_delete` meets its contract: the session's own step, given out. Assumes nothing.
+use mathlib.Core.Path.{_∙_}
 use borrow.Author.Needs.{needs}
 use Rattle.terminal.proofs.sessions.lachsbrille_session_delete.Statement.{statement}
 use Rattle.terminal.proofs.sessions.lachsbrille_session_delete.Tie as tie
 
-session-of-requires : tie.Need-session-of-requires
-session-of-requires c κs = search needs
-
 delete-requires : tie.Need-delete-requires
 delete-requires c κs = search needs
 
-give-client-requires : tie.Need-give-client-requires
-give-client-requires c κs = search needs
+give-step-requires : tie.Need-give-step-requires
+give-step-requires c κs = search needs
 
 returns : tie.Need-returns
-returns c = given-in _ deleteOf _ _ _ (c .before .before .session-of .ensures) (c .before .delete .ensures) (c .give-client .ensures)
+returns c = c .give-step .ensures ∙ c .before .delete .ensures
 
 pub lachsbrille-session-delete-spec : {M : Type 1} → statement M
-lachsbrille-session-delete-spec = tie.close (tie.spec session-of-requires delete-requires give-client-requires returns)
+lachsbrille-session-delete-spec = tie.close (tie.spec delete-requires give-step-requires returns)

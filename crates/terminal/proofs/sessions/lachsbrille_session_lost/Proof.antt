@@ -1,21 +1,17 @@
--- `terminal::sessions::lachsbrille_session_lost` meets its contract: the call's outcome. Assumes nothing.
-use Rattle.session.specs.Calls.{lostOf}
-use Rattle.client.proofs.Known.{given-in}
+-- `terminal::sessions::lachsbrille_session_lost` meets its contract: the session's own step, given out. Assumes nothing.
+use mathlib.Core.Path.{_∙_}
 use borrow.Author.Needs.{needs}
 use Rattle.terminal.proofs.sessions.lachsbrille_session_lost.Statement.{statement}
 use Rattle.terminal.proofs.sessions.lachsbrille_session_lost.Tie as tie
 
-session-of-requires : tie.Need-session-of-requires
-session-of-requires c κs = search needs
-
 lost-requires : tie.Need-lost-requires
 lost-requires c κs = search needs
 
-give-client-requires : tie.Need-give-client-requires
-give-client-requires c κs = search needs
+give-step-requires : tie.Need-give-step-requires
+give-step-requires c κs = search needs
 
 returns : tie.Need-returns
-returns c = given-in _ lostOf _ _ _ (c .before .before .session-of .ensures) (c .before .lost .ensures) (c .give-client .ensures)
+returns c = c .give-step .ensures ∙ c .before .lost .ensures
 
 pub lachsbrille-session-lost-spec : {M : Type 1} → statement M
-lachsbrille-session-lost-spec = tie.close (tie.spec session-of-requires lost-requires give-client-requires returns)
+lachsbrille-session-lost-spec = tie.close (tie.spec lost-requires give-step-requires returns)

@@ -1,2 +1,0 @@
--- What the contracts of `client` cite.
-pub mod Sessions
