@@ -40,15 +40,15 @@ pub extern "C" fn lachsbrille_log_read_record(
 pub extern "C" fn lachsbrille_log_write_record(
     to: &mut [u8],
     layout: u16,
-    fields: Fields,
+    fields: &Fields,
     logged: usize,
     ordinals: &[u8],
     values: &[i32],
     count: usize,
 ) -> Written
-    ensures { λ r. ⌜ (r ≡ writtenAs (writeRefusal layout fields logged (now (ordinals .entry)) (now (values .entry)) count (length (now (to .entry)))) (recordLength layout count)) × (now (to .exit) ≡ bytesAfter (now (to .entry)) layout fields logged (now (ordinals .entry)) (now (values .entry)) count) ⌝ }
+    ensures { λ r. ⌜ (r ≡ writtenAs (writeRefusal layout (now (fields .entry)) logged (now (ordinals .entry)) (now (values .entry)) count (length (now (to .entry)))) (recordLength layout count)) × (now (to .exit) ≡ bytesAfter (now (to .entry)) layout (now (fields .entry)) logged (now (ordinals .entry)) (now (values .entry)) count) ⌝ }
 {
-    log_writing::write_record(to, layout, fields, logged, ordinals, values, count)
+    log_writing::write_record(to, layout, *fields, logged, ordinals, values, count)
 }
 
 // Reads the records of a log to its end.
