@@ -15,7 +15,7 @@ ghost use Rattle.log_writing.specs.Writing.{writeRefusal, writtenAs, bytesAfter
 
 // The number of optional fields that a layout marks.
 #[no_mangle]
-pub extern "C" fn lachsbrille_log_optional_fields(layout: u16) -> Marks
+pub extern "C" fn lachsbrille_log_optional_fields(layout: u32) -> Marks
     ensures { λ r. ⌜ (r .number ≡ cond (ltb 511 layout) 47 0) × (r .count ≡ cond (ltb 511 layout) 0 (marksSet layout)) ⌝ }
 {
     time_log::optional_fields(layout)
@@ -25,7 +25,7 @@ pub extern "C" fn lachsbrille_log_optional_fields(layout: u16) -> Marks
 #[no_mangle]
 pub extern "C" fn lachsbrille_log_read_record(
     bytes: &[u8],
-    layout: u16,
+    layout: u32,
     logged: usize,
     ordinals: &mut [u8],
     values: &mut [i32],
@@ -39,7 +39,7 @@ pub extern "C" fn lachsbrille_log_read_record(
 #[no_mangle]
 pub extern "C" fn lachsbrille_log_write_record(
     to: &mut [u8],
-    layout: u16,
+    layout: u32,
     fields: &Fields,
     logged: usize,
     ordinals: &[u8],
@@ -53,7 +53,7 @@ pub extern "C" fn lachsbrille_log_write_record(
 
 // Reads the records of a log to its end.
 #[no_mangle]
-pub extern "C" fn lachsbrille_log_read(bytes: &[u8], layout: u16, logged: usize) -> Log
+pub extern "C" fn lachsbrille_log_read(bytes: &[u8], layout: u32, logged: usize) -> Log
     ensures { λ r. ⌜ r ≡ logOf layout logged (now (bytes .entry)) ⌝ }
 {
     log_reading::read_log(bytes, layout, logged)
