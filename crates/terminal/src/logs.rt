@@ -35,7 +35,8 @@ pub extern "C" fn lachsbrille_log_read_record(
     log_reading::read_record(bytes, layout, logged, ordinals, values)
 }
 
-// Writes a record of the first so many ordinals and values.
+// Writes a record of the first so many ordinals and values. The fields come behind a reference: by value, each machine would pass a
+// struct of their size in its own way.
 #[no_mangle]
 pub extern "C" fn lachsbrille_log_write_record(
     to: &mut [u8],
