@@ -71,7 +71,7 @@ fn fill_values(bytes: &[u8], at: usize, values: &mut [i32], n: usize)
 // Reads the record that the bytes start with; those behind it do not matter.
 pub fn read_record(
     bytes: &[u8],
-    layout: u16,
+    layout: u32,
     logged: usize,
     ordinals: &mut [u8],
     values: &mut [i32],
@@ -119,7 +119,7 @@ pub struct Log {
 }
 
 // Reads the records to the end of the bytes.
-pub fn read_log(bytes: &[u8], layout: u16, logged: usize) -> Log
+pub fn read_log(bytes: &[u8], layout: u32, logged: usize) -> Log
     ensures { λ r. ⌜ r ≡ logOf layout logged (now (bytes .entry)) ⌝ }
 {
     if 511 < layout {

@@ -39,7 +39,7 @@ fn any_of_list_over(s: &[u8], n: usize, logged: usize) -> bool
 // Writes a record of the first so many ordinals and values from the start of the bytes on.
 pub fn write_record(
     to: &mut [u8],
-    layout: u16,
+    layout: u32,
     fields: Fields,
     logged: usize,
     ordinals: &[u8],

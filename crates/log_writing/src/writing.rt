@@ -10,7 +10,7 @@ ghost use Rattle.time_log.specs.Layout.{width, partWidth, placeOf};
 ghost use Rattle.time_log.specs.Within.{Placed};
 ghost use Rattle.log_writing.specs.Writing.{keptNumber, keptSigned, keptFields, bytesBefore, pairsFrom};
 
-fn kept_number(layout: u16, k: usize, x: u32) -> u32
+fn kept_number(layout: u32, k: usize, x: u32) -> u32
     requires { ⌜ k ≤ 8 ⌝ }
     ensures { λ r. ⌜ (r ≡ keptNumber layout k x) × (r ≤ x) ⌝ }
 {
@@ -20,7 +20,7 @@ fn kept_number(layout: u16, k: usize, x: u32) -> u32
     x
 }
 
-fn kept_signed(layout: u16, k: usize, z: i32) -> i32
+fn kept_signed(layout: u32, k: usize, z: i32) -> i32
     requires { ⌜ k ≤ 8 ⌝ }
     ensures { λ r. ⌜ r ≡ keptSigned layout k z ⌝ }
 {
@@ -31,7 +31,7 @@ fn kept_signed(layout: u16, k: usize, z: i32) -> i32
 }
 
 // The fields with 0 for those that the layout does not mark, which are then neither refused nor written.
-pub fn kept(layout: u16, fields: Fields) -> Fields
+pub fn kept(layout: u32, fields: Fields) -> Fields
     ensures { λ r. ⌜ r ≡ keptFields layout fields ⌝ }
 {
     let north = kept_signed(layout, 0, fields.north);
@@ -59,7 +59,7 @@ pub fn kept(layout: u16, fields: Fields) -> Fields
 }
 
 // Writes optional field k in its w bytes at its place, where it is marked.
-fn put_part(to: &mut [u8], layout: u16, k: usize, at: usize, w: usize, x: u32)
+fn put_part(to: &mut [u8], layout: u32, k: usize, at: usize, w: usize, x: u32)
     requires { ⌜ (k ≤ 8) × (at ≡ placeOf layout k) × (w ≡ width k) × (placeOf layout 9 ≤ length (now to)) ⌝ }
     ensures { λ _. ⌜ now (to .exit) ≡ sets (now (to .entry)) (placeOf layout k) (bytesOf (partWidth layout k) x) ⌝ }
 {
@@ -70,7 +70,7 @@ fn put_part(to: &mut [u8], layout: u16, k: usize, at: usize, w: usize, x: u32)
 }
 
 // Writes the time, the days and the marked fields.
-pub fn put_fields(to: &mut [u8], layout: u16, places: Places, fields: Fields)
+pub fn put_fields(to: &mut [u8], layout: u32, places: Places, fields: Fields)
     requires { ⌜ Placed layout places × (placeOf layout 9 ≤ length (now to)) ⌝ }
     ensures { λ _. ⌜ now (to .exit) ≡ sets (now (to .entry)) 0 (bytesBefore layout fields 9) ⌝ }
 {

@@ -15,7 +15,7 @@ ghost use Rattle.log_writing.specs.Writing.{writeRefusal, writtenAs, bytesAfter
 
 // The number of optional fields that a layout marks.
 #[no_mangle]
-pub extern "C" fn lachsbrille_log_optional_fields(layout: u16) -> Marks
+pub extern "C" fn lachsbrille_log_optional_fields(layout: u32) -> Marks
     ensures { λ r. ⌜ (r .number ≡ cond (ltb 511 layout) 47 0) × (r .count ≡ cond (ltb 511 layout) 0 (marksSet layout)) ⌝ }
 {
     time_log::optional_fields(layout)
@@ -25,7 +25,7 @@ pub extern "C" fn lachsbrille_log_optional_fields(layout: u16) -> Marks
 #[no_mangle]
 pub extern "C" fn lachsbrille_log_read_record(
     bytes: &[u8],
-    layout: u16,
+    layout: u32,
     logged: usize,
     ordinals: &mut [u8],
     values: &mut [i32],
@@ -35,25 +35,26 @@ pub extern "C" fn lachsbrille_log_read_record(
     log_reading::read_record(bytes, layout, logged, ordinals, values)
 }
 
-// Writes a record of the first so many ordinals and values.
+// Writes a record of the first so many ordinals and values. The fields come behind a reference: by value, each machine would pass a
+// struct of their size in its own way.
 #[no_mangle]
 pub extern "C" fn lachsbrille_log_write_record(
     to: &mut [u8],
-    layout: u16,
-    fields: Fields,
+    layout: u32,
+    fields: &Fields,
     logged: usize,
     ordinals: &[u8],
     values: &[i32],
     count: usize,
 ) -> Written
-    ensures { λ r. ⌜ (r ≡ writtenAs (writeRefusal layout fields logged (now (ordinals .entry)) (now (values .entry)) count (length (now (to .entry)))) (recordLength layout count)) × (now (to .exit) ≡ bytesAfter (now (to .entry)) layout fields logged (now (ordinals .entry)) (now (values .entry)) count) ⌝ }
+    ensures { λ r. ⌜ (r ≡ writtenAs (writeRefusal layout (now (fields .entry)) logged (now (ordinals .entry)) (now (values .entry)) count (length (now (to .entry)))) (recordLength layout count)) × (now (to .exit) ≡ bytesAfter (now (to .entry)) layout (now (fields .entry)) logged (now (ordinals .entry)) (now (values .entry)) count) ⌝ }
 {
-    log_writing::write_record(to, layout, fields, logged, ordinals, values, count)
+    log_writing::write_record(to, layout, *fields, logged, ordinals, values, count)
 }
 
 // Reads the records of a log to its end.
 #[no_mangle]
-pub extern "C" fn lachsbrille_log_read(bytes: &[u8], layout: u16, logged: usize) -> Log
+pub extern "C" fn lachsbrille_log_read(bytes: &[u8], layout: u32, logged: usize) -> Log
     ensures { λ r. ⌜ r ≡ logOf layout logged (now (bytes .entry)) ⌝ }
 {
     log_reading::read_log(bytes, layout, logged)

@@ -8,7 +8,7 @@ ghost use Rattle.time_log.specs.Layout.{width, placeOf};
 ghost use Rattle.time_log.specs.Contents.{partAt, fieldsAt};
 ghost use Rattle.time_log.specs.Within.{Placed};
 
-pub fn places_of(layout: u16) -> Places
+pub fn places_of(layout: u32) -> Places
     ensures { λ r. ⌜ Placed layout r ⌝ }
 {
     let marks = layout as usize;
@@ -35,7 +35,7 @@ pub fn places_of(layout: u16) -> Places
 }
 
 // Optional field k as a number: its w bytes at its place, or 0 where it is absent.
-pub fn part(bytes: &[u8], layout: u16, k: usize, at: usize, w: usize) -> u32
+pub fn part(bytes: &[u8], layout: u32, k: usize, at: usize, w: usize) -> u32
     requires { ⌜ (k ≤ 8) × (at ≡ placeOf layout k) × (w ≡ width k) × (placeOf layout 9 ≤ length (now bytes)) ⌝ }
     ensures { λ r. ⌜ (r ≡ partAt layout (now (bytes .entry)) k) × (r < 256 ^ width k) ⌝ }
 {
@@ -45,7 +45,7 @@ pub fn part(bytes: &[u8], layout: u16, k: usize, at: usize, w: usize) -> u32
     wire::number(bytes, at, w) as u32
 }
 
-pub fn fields_of(bytes: &[u8], layout: u16, places: Places) -> Fields
+pub fn fields_of(bytes: &[u8], layout: u32, places: Places) -> Fields
     requires { ⌜ Placed layout places × (placeOf layout 9 ≤ length (now bytes)) ⌝ }
     ensures { λ r. ⌜ r ≡ fieldsAt layout (now (bytes .entry)) ⌝ }
 {

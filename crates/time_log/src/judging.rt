@@ -95,7 +95,7 @@ pub fn judged(fields: Fields, over: bool) -> u32
 }
 
 // Judges a record of a log, of whose fields no more is read than is judged.
-pub fn refusal(bytes: &[u8], layout: u16, places: Places, logged: usize) -> u32
+pub fn refusal(bytes: &[u8], layout: u32, places: Places, logged: usize) -> u32
     requires { ⌜ (layout ≤ 511) × Placed layout places ⌝ }
     ensures { λ r. ⌜ r ≡ recordRefusal layout logged (now (bytes .entry)) ⌝ }
 {

@@ -36,7 +36,7 @@ pub struct Marks {
     pub count: u32,
 }
 
-pub fn optional_fields(layout: u16) -> Marks
+pub fn optional_fields(layout: u32) -> Marks
     ensures { λ r. ⌜ (r .number ≡ cond (ltb 511 layout) 47 0) × (r .count ≡ cond (ltb 511 layout) 0 (marksSet layout)) ⌝ }
 {
     if 511 < layout {
@@ -47,7 +47,7 @@ pub fn optional_fields(layout: u16) -> Marks
     }
     Marks {
         number: 0,
-        count: u16::count_ones(layout),
+        count: u32::count_ones(layout),
     }
 }
 
