@@ -1,11 +1,10 @@
--- Every call has an outcome that its contract allows: what a definition of the session says can be answered. Assumes nothing.
+-- What the definitions say of a call can be answered by a step of Rattle. Assumes nothing.
 use mathlib.Core.Path.{_≡_, refl, sym, ap, _∙_}
 use mathlib.Core.Bool.{Bool, true, false, not, _||_}
 use mathlib.Core.List.{List, [], _∷_}
 use Prim.Native.Nat.{ℕ, zero, suc, _-_, _≤_, _<_}
 use native.Mathlib.Omega.{arith}
 use borrow.Author.Tests.{not-true, not-false, eqb-true}
-use denote.Ref.{RefT, now}
 use lib.Dec.{eqb, ltb}
 use lib.ListN.{length, take}
 use Rattle.pool.specs.Answer.{Answer, answer}
@@ -18,17 +17,15 @@ use Rattle.session.specs.Calls as S
 use Rattle.activation.specs.Activating as Act
 use Rattle.session.specs.declared.Answer.the-variants.{Done, NoMark, Cut, LengthOver, TooMany, TableShort, BadSize, NotOffered, BadPiece, Incomplete, Faulty, NotActive, NoRoom, CannotArise}
 use Rattle.session.specs.declared.Session.{Session}
-use Rattle.session.specs.declared.Stage.the-variants.{Idle, Offered}
 use Rattle.session.specs.declared.Step.{Step}
 use Rattle.session.proofs.Arising.{sized}
 use Rattle.book.specs.Book.{Call, offer, transfer, activate, deactivate, delete, lost}
-use Rattle.book.specs.Run.{Does, does-offer, does-transfer, does-activate, does-deactivate, does-delete, does-lost, Runs, ends, goes}
-use Rattle.book.specs.Claim.{Outcome}
+use Rattle.book.proofs.Follows.{toldBy}
 
 -- a step by which something is told
-record Real (t : S.Told) : Type 0 where
-  step : Step
-  tells : S.stepOf step ≡ t
+pub record Real (t : S.Told) : Type 0 where
+  pub step : Step
+  pub tells : S.stepOf step ≡ t
 
 either : (b : Bool) {x y : S.Told} → (b ≡ true → Real x) → (b ≡ false → Real y) → Real (S.choose b x y)
 either true f g = f refl
@@ -70,7 +67,7 @@ real-decided : (s : Session) (p : List ℕ) (a : Answer) → Shape a → Real (A
 real-decided s p a (shape-read n) =
     either (not (eqb n 0))
     (λ e. record { step = record { session = S.ended s; answer = Faulty (Act.firstIn (breachesOf p) .number) (Act.firstIn (breachesOf p) .rule) (Act.firstIn (breachesOf p) .item) }; tells = refl })
-    (λ e. record { step = record { session = record { stage = Idle; announced = 0; received = 0; kept = length p; active = true }; answer = Done }; tells = refl })
+    (λ e. record { step = record { session = record { announced = 0; received = 0; kept = length p; stage = 0; active = 1 }; answer = Done }; tells = refl })
 real-decided s p a (shape-mark at) = record { step = record { session = S.ended s; answer = NoMark at }; tells = refl }
 real-decided s p a (shape-cut at) = record { step = record { session = S.ended s; answer = Cut at }; tells = refl }
 real-decided s p a (shape-over at) = record { step = record { session = S.ended s; answer = LengthOver at }; tells = refl }
@@ -86,13 +83,13 @@ real-offer s n ls lk =
     either (S.impossible s) (λ e. impossible-told s) (λ e.
     either (eqb n 0 || ltb 65535 n) (λ e. record { step = record { session = s; answer = BadSize }; tells = refl }) (λ e.
     either (ltb ls n || ltb lk n) (λ e. record { step = record { session = s; answer = NoRoom }; tells = refl })
-    (λ e. record { step = record { session = record { stage = Offered; announced = n; received = 0; kept = s .kept; active = s .active }; answer = Done }; tells = refl })))
+    (λ e. record { step = record { session = record { announced = n; received = 0; kept = s .kept; stage = 1; active = s .active }; answer = Done }; tells = refl })))
 
 real-transfer : (s : Session) (piece : List ℕ) (ls : ℕ) → Real (S.transferOf s piece ls)
 unfolding S.transferOf
 real-transfer s piece ls =
     either (S.impossible s) (λ e. impossible-told s) (λ e.
-    either (not (S.isOffered (s .stage))) (λ e. record { step = record { session = s; answer = NotOffered }; tells = refl }) (λ e.
+    either (not (S.isOffered s)) (λ e. record { step = record { session = s; answer = NotOffered }; tells = refl }) (λ e.
     either (eqb (length piece) 0 || ltb (s .announced - s .received) (length piece)) (λ e. record { step = record { session = s; answer = BadPiece }; tells = refl }) (λ e.
     either (ltb ls (s .announced)) (λ e. record { step = record { session = s; answer = NoRoom }; tells = refl })
     (λ e. record { step = record { session = _; answer = Done }; tells = refl }))))
@@ -101,7 +98,7 @@ real-activate : (s : Session) (staging kept : List ℕ) (room : ℕ) → Real (A
 unfolding Act.activateOf Act.keptActivated Act.settled
 real-activate s staging kept room =
     either (S.impossible s) (λ e. impossible-told s) (λ e.
-    either (not (S.isOffered (s .stage)))
+    either (not (S.isOffered s))
     (λ o.
     either (eqb (s .kept) 0) (λ e. record { step = record { session = s; answer = NotOffered }; tells = refl }) (λ z.
     either (ltb (length kept) (s .kept)) (λ e. record { step = record { session = s; answer = NoRoom }; tells = refl })
@@ -109,7 +106,7 @@ real-activate s staging kept room =
     (λ o.
     either (ltb (s .received) (s .announced)) (λ z. record { step = record { session = s; answer = Incomplete }; tells = refl }) (λ z.
     either (ltb (length staging) (s .announced) || ltb (length kept) (s .announced)) (λ z. record { step = record { session = s; answer = NoRoom }; tells = refl }) (λ h.
-    let w = sized s staging kept e (not-false (S.isOffered (s .stage)) o) h in
+    let w = sized s staging kept e (not-false (S.isOffered s) o) h in
     real-decided s (take (s .announced) staging) (checkOf (take (s .announced) staging) room)
     (shape-checked (take (s .announced) staging) room (w .1) (w .2))))))
 
@@ -117,7 +114,7 @@ real-deactivate : (s : Session) → Real (S.deactivateOf s)
 unfolding S.deactivateOf
 real-deactivate s =
     either (S.impossible s) (λ e. impossible-told s) (λ e.
-    either (not (s .active)) (λ e. record { step = record { session = s; answer = NotActive }; tells = refl })
+    either (eqb (s .active) 0) (λ e. record { step = record { session = s; answer = NotActive }; tells = refl })
     (λ e. record { step = record { session = _; answer = Done }; tells = refl }))
 
 real-delete : (s : Session) → Real (S.deleteOf s)
@@ -128,34 +125,10 @@ real-lost : (s : Session) → Real (S.lostOf s)
 unfolding S.lostOf
 real-lost s = either (S.impossible s) (λ e. impossible-told s) (λ e. record { step = record { session = _; answer = Done }; tells = refl })
 
--- one call, over a reference to each list
-ref : {A : Type 0} → List A → RefT (List A)
-ref l = record { ptr = (0, 0); name = 0; now = l }
-
-record One (s : Session) (st k : List ℕ) (c : Call) : Type 0 where
-  step : Step
-  staging : List ℕ
-  area : List ℕ
-  does : Does s st k c step staging area
-
-one : (c : Call) (s : Session) (st k : List ℕ) → One s st k c
-unfolding ref
-one (offer n) s st k =
-    let r = real-offer s n (length st) (length k) in
-    record { step = r .step; staging = st; area = k; does = does-offer ([], ([], tt)) s n (ref st) (ref k) (r .step) tt (r .tells) }
-one (transfer p) s st k =
-    let r = real-transfer s p (length st) in
-    record { step = r .step; staging = S.stagingAfter s p st; area = k; does = does-transfer ([], ([], tt)) s (ref p) (ref st) k (r .step) (S.stagingAfter s p st) tt (r .tells, refl) }
-one (activate t) s st k =
-    let r = real-activate s st k (length t) in
-    record { step = r .step; staging = st; area = Act.keptAfter s st k (length t); does = does-activate ([], ([], ([], tt))) s (ref st) (ref k) (ref t) (r .step) (Act.keptAfter s st k (length t)) (Act.activatedRecords s st (length k) t) (r .tells, refl, refl) }
-one deactivate s st k = let r = real-deactivate s in record { step = r .step; staging = st; area = k; does = does-deactivate tt s st k (r .step) tt (r .tells) }
-one delete s st k = let r = real-delete s in record { step = r .step; staging = st; area = k; does = does-delete tt s st k (r .step) tt (r .tells) }
-one lost s st k = let r = real-lost s in record { step = r .step; staging = st; area = k; does = does-lost tt s st k (r .step) tt (r .tells) }
-
-pub runs-on : (cs : List Call) (s : Session) (st k : List ℕ) → Outcome s st k cs
-runs-on [] s st k = record { answers = []; session = s; staging-left = st; kept-left = k; run = ends s st k }
-runs-on (c ∷ cs) s st k =
-    let d = one c s st k in
-    let o = runs-on cs (d .step .session) (d .staging) (d .area) in
-    record { answers = d .step .answer ∷ o .answers; session = o .session; staging-left = o .staging-left; kept-left = o .kept-left; run = goes (d .does) (o .run) }
+pub real : (s : Session) (st k : List ℕ) (c : Call) → Real (toldBy s st k c)
+real s st k (offer n) = real-offer s n (length st) (length k)
+real s st k (transfer p) = real-transfer s p (length st)
+real s st k (activate t) = real-activate s st k (length t)
+real s st k deactivate = real-deactivate s
+real s st k delete = real-delete s
+real s st k lost = real-lost s

@@ -1,15 +1,15 @@
 -- What holds of every book that a list of calls leads to, and of the areas beside it. Assumes nothing.
 use mathlib.Core.Path.{_≡_, refl, sym, ap, _∙_}
-use mathlib.Core.Bool.{Bool, true, false, not, _&&_, _||_, true≢false}
+use mathlib.Core.Bool.{Bool, true, false, not, cond, _&&_, _||_, true≢false}
 use mathlib.Core.List.{List, []}
 use Prim.Native.Nat.{ℕ, _≤_, _<_}
 use native.Mathlib.Omega.{arith}
 use borrow.Author.Tests.{le-ltb, eq-eqb, ne-eqb}
 use lib.Dec.{eqb, ltb}
 use lib.ListN.{length}
-use Rattle.session.specs.Calls.{isOffered, impossible}
+use Rattle.session.specs.Calls.{impossible}
 use Rattle.book.specs.Book.{Book, blank, over}
-use Rattle.book.specs.Run.{stageOf, sessionOf, Starts}
+use Rattle.book.specs.Run.{sessionOf, Starts}
 
 -- ls and lk are the lengths of staging and of the kept area
 pub record Good (ls lk : ℕ) (b : Book) (st k : List ℕ) : Type 0 where
@@ -31,15 +31,26 @@ pub record Good (ls lk : ℕ) (b : Book) (st k : List ℕ) : Type 0 where
 all-false : (a b c d f g : Bool) → a ≡ false → b ≡ false → c ≡ false → d ≡ false → f ≡ false → g ≡ false → (((((a || b) || c) || d) || f) || g) ≡ false
 all-false a b c d f g ea eb ec ed ef eg = rw (ea, eb, ec, ed, ef, eg)
 
-pub offered-stage : (o : Bool) → isOffered (stageOf o) ≡ o
-offered-stage true = refl
-offered-stage false = refl
+-- stage and active are 0 or 1, and say what the book says
+pub is-one : (o : Bool) → eqb (cond o 1 0) 1 ≡ o
+is-one true = refl
+is-one false = refl
+
+pub is-zero : (o : Bool) → eqb (cond o 1 0) 0 ≡ not o
+is-zero true = refl
+is-zero false = refl
+
+known : (o a : Bool) → (ltb 1 (cond o 1 0) || ltb 1 (cond a 1 0)) ≡ false
+known true true = refl
+known true false = refl
+known false true = refl
+known false false = refl
 
 not-zero : (a : Bool) (n : ℕ) → (a ≡ true → 0 < n) → (a && eqb n 0) ≡ false
 not-zero true n h = ne-eqb n 0 (λ (z : n ≡ 0). let k = h refl in omega arith)
 not-zero false n h = refl
 
-no-traces : (o : Bool) (n r : ℕ) → (o ≡ false → n ≡ 0) → r ≤ n → (not (isOffered (stageOf o)) && (not (eqb n 0) || not (eqb r 0))) ≡ false
+no-traces : (o : Bool) (n r : ℕ) → (o ≡ false → n ≡ 0) → r ≤ n → (not (eqb (cond o 1 0) 1) && (not (eqb n 0) || not (eqb r 0))) ≡ false
 no-traces true n r h l = refl
 no-traces false n r h l =
     let z : n ≡ 0 = h refl in
@@ -49,15 +60,16 @@ no-traces false n r h l =
 pub possible : (ls lk : ℕ) (b : Book) (st k : List ℕ) → Good ls lk b st k → impossible (sessionOf b) ≡ false
 unfolding impossible
 possible ls lk b st k g =
-    all-false (ltb 65535 (b .announced)) (ltb 65535 (length (b .kept))) (isOffered (stageOf (b .offered)) && eqb (b .announced) 0)
+    all-false (ltb 1 (cond (b .offered) 1 0) || ltb 1 (cond (b .active) 1 0)) (ltb 65535 (b .announced) || ltb 65535 (length (b .kept)))
+    (eqb (cond (b .offered) 1 0) 1 && eqb (b .announced) 0)
     (ltb (b .announced) (length (b .arrived)))
-    (b .active && eqb (length (b .kept)) 0)
-    (not (isOffered (stageOf (b .offered))) && (not (eqb (b .announced) 0) || not (eqb (length (b .arrived)) 0)))
-    (le-ltb 65535 (b .announced) (g .size))
-    (le-ltb 65535 (length (b .kept)) (g .kept-size))
-    (not-zero (isOffered (stageOf (b .offered))) (b .announced) (λ (o : isOffered (stageOf (b .offered)) ≡ true). g .some (sym (offered-stage (b .offered)) ∙ o)))
+    (eqb (cond (b .active) 1 0) 1 && eqb (length (b .kept)) 0)
+    (not (eqb (cond (b .offered) 1 0) 1) && (not (eqb (b .announced) 0) || not (eqb (length (b .arrived)) 0)))
+    (known (b .offered) (b .active))
+    (rw (le-ltb 65535 (b .announced) (g .size), le-ltb 65535 (length (b .kept)) (g .kept-size)))
+    (rw (is-one (b .offered)) (not-zero (b .offered) (b .announced) (g .some)))
     (le-ltb (b .announced) (length (b .arrived)) (g .part))
-    (not-zero (b .active) (length (b .kept)) (g .live))
+    (rw (is-one (b .active)) (not-zero (b .active) (length (b .kept)) (g .live)))
     (no-traces (b .offered) (b .announced) (length (b .arrived)) (g .none) (g .part))
 
 -- the book of a new session, and a stage's end

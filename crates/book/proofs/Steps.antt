@@ -1,6 +1,6 @@
 -- Each call does as the book says. Assumes nothing.
 use mathlib.Core.Path.{_≡_, refl, sym, ap, _∙_, subst}
-use mathlib.Core.Bool.{Bool, true, false, not, _&&_, _||_, true≢false}
+use mathlib.Core.Bool.{Bool, true, false, not, cond, _&&_, _||_, true≢false}
 use mathlib.Core.List.{List, [], _∷_, _++_, append-assoc}
 use Prim.Native.Nat.{ℕ, _+_, _-_, _≤_, _<_}
 use native.Mathlib.Omega.{arith}
@@ -8,7 +8,6 @@ use borrow.Author.Tests.{ltb-false, le-ltb, eqb-true, eqb-false, ne-eqb}
 use lib.Dec.{eqb, ltb}
 use lib.ListN.{length, take, drop, length-append}
 use lib.Seq.{sets, sets-eq, length-sets, take-append-seam}
-use denote.Ref.{now}
 use Rattle.pool.specs.Answer.{Answer}
 use Rattle.working_table.specs.declared.Record.{Record}
 use Rattle.faults.specs.Faults.{Fault}
@@ -18,20 +17,15 @@ use Rattle.session.specs.Answers.{Reply, replyOf}
 use Rattle.session.specs.Calls as S
 use Rattle.activation.specs.Activating as Act
 use Rattle.session.specs.declared.Session.{Session}
-use Rattle.session.specs.declared.Stage.the-variants.{Offered}
-use Rattle.session.specs.declared.Step.{Step}
 use Rattle.wire.proofs.Either.{neither}
 use Rattle.book.specs.Book.{Said, Book, blank, Noted, noted, note, over, checked, firstIn, Call, offer, transfer, activate, deactivate, delete, lost}
-use Rattle.book.specs.Run.{stageOf, sessionOf, Starts, Does, does-offer, does-transfer, does-activate, does-deactivate, does-delete, does-lost}
-use Rattle.book.proofs.Good.{Good, possible, offered-stage, blank-good, over-good}
+use Rattle.book.specs.Run.{Functions, sessionOf, Starts}
+use Rattle.book.proofs.Good.{Good, possible, is-one, is-zero, blank-good, over-good}
+use Rattle.book.proofs.Follows.{saidIn, toldBy, stagingBy, keptBy, tableBy, Did}
 
 pub by-case : {P : Type 0} (t : Bool) → (t ≡ true → P) → (t ≡ false → P) → P
 by-case true f g = f refl
 by-case false f g = g refl
-
--- a reply as the client is told it
-abbrev pub saidIn : Reply → Said
-saidIn q = record { number = q .number; place = q .place; first = q .first }
 
 -- what a call tells and returns is what the book notes, and the book stays good
 pub record Ok (ls lk : ℕ) (t : S.Told) (m : Noted) (st k : List ℕ) : Type 0 where
@@ -89,7 +83,7 @@ module _ (ls lk : ℕ) (b : Book) (st k : List ℕ) (g : Good ls lk b st k) wher
   transfer-ok : (piece : List ℕ) → Ok ls lk (S.transferOf (sessionOf b) piece (length st)) (noted ls lk b (transfer piece)) (S.stagingAfter (sessionOf b) piece st) k
   unfolding S.transferOf S.stagingAfter noted
   transfer-ok piece =
-      rw (possible ls lk b st k g, offered-stage (b .offered), g .long-st)
+      rw (possible ls lk b st k g, is-one (b .offered), g .long-st)
       (by-case (b .offered)
       (λ o.
       by-case (eqb (length piece) 0 || ltb (b .announced - length (b .arrived)) (length piece)) (λ e1. simp (o, e1) (record { said = refl; session = rw o; good = g })) (λ e1.
@@ -140,7 +134,7 @@ module _ (ls lk : ℕ) (b : Book) (st k : List ℕ) (g : Good ls lk b st k) wher
 
   -- what follows from what checking says
   decided-ok : b .offered ≡ true → length (b .arrived) ≡ b .announced → (a : Answer)
-      → Ok ls lk (Act.decided (record { stage = Offered; announced = b .announced; received = length (b .arrived); kept = length (b .kept); active = b .active }) (b .arrived) a)
+      → Ok ls lk (Act.decided (record { announced = b .announced; received = length (b .arrived); kept = length (b .kept); stage = 1; active = cond (b .active) 1 0 }) (b .arrived) a)
       (checked b a) st (S.choose (Act.accepted a) (sets k 0 (b .arrived)) k)
   decided-ok o q a =
       by-case (eqb (a .number) 0)
@@ -157,7 +151,7 @@ module _ (ls lk : ℕ) (b : Book) (st k : List ℕ) (g : Good ls lk b st k) wher
   activate-ok : (t : List Record) → Ok ls lk (Act.activateOf (sessionOf b) st (length k) (length t)) (noted ls lk b (activate t)) st (Act.keptAfter (sessionOf b) st k (length t))
   unfolding Act.activateOf Act.keptAfter Act.isChecked Act.keptActivated Act.settled Act.keptSettled noted
   activate-ok t =
-      rw (possible ls lk b st k g, offered-stage (b .offered), g .long-st, g .long-k)
+      rw (possible ls lk b st k g, is-one (b .offered), g .long-st, g .long-k)
       (by-case (b .offered)
       (λ o.
       by-case (ltb (length (b .arrived)) (b .announced)) (λ e1. simp (o, e1) (record { said = refl; session = rw o; good = g })) (λ e1.
@@ -246,26 +240,27 @@ module _ (ls lk : ℕ) (b : Book) (st k : List ℕ) (g : Good ls lk b st k) wher
         };
       })
 
--- one call, whatever outcome the contract of its function allows
-pub does-ok : {ls lk : ℕ} {b : Book} {s : Session} {st k st' k' : List ℕ} {c : Call} {r : Step} → Does s st k c r st' k' → s ≡ sessionOf b → Good ls lk b st k
-    → Ok ls lk (S.stepOf r) (noted ls lk b c) st' k'
-does-ok {ls} {lk} {b} (does-offer κs s n st k r ask post) e g =
-    let q : S.stepOf r ≡ S.offerOf (sessionOf b) n (length (now st)) (length (now k)) = post ∙ ap (λ (x : Session). S.offerOf x n (length (now st)) (length (now k))) e in
-    rw q (offer-ok ls lk b (now st) (now k) g n)
-does-ok {ls} {lk} {b} (does-transfer κs s p st k r st' ask post) e g =
-    let q : S.stepOf r ≡ S.transferOf (sessionOf b) (now p) (length (now st)) = post .0 ∙ ap (λ (x : Session). S.transferOf x (now p) (length (now st))) e in
-    let w : st' ≡ S.stagingAfter (sessionOf b) (now p) (now st) = post .1 ∙ ap (λ (x : Session). S.stagingAfter x (now p) (now st)) e in
-    rw (q, w) (transfer-ok ls lk b (now st) k g (now p))
-does-ok {ls} {lk} {b} (does-activate κs s st k t r k' t' post) e g =
-    let q : S.stepOf r ≡ Act.activateOf (sessionOf b) (now st) (length (now k)) (length (now t)) = post .0 ∙ ap (λ (x : Session). Act.activateOf x (now st) (length (now k)) (length (now t))) e in
-    let w : k' ≡ Act.keptAfter (sessionOf b) (now st) (now k) (length (now t)) = post .1 ∙ ap (λ (x : Session). Act.keptAfter x (now st) (now k) (length (now t))) e in
-    rw (q, w) (activate-ok ls lk b (now st) (now k) g (now t))
-does-ok {ls} {lk} {b} (does-deactivate κs s st k r ask post) e g =
-    let q : S.stepOf r ≡ S.deactivateOf (sessionOf b) = post ∙ ap S.deactivateOf e in
-    rw q (deactivate-ok ls lk b st k g)
-does-ok {ls} {lk} {b} (does-delete κs s st k r ask post) e g =
-    let q : S.stepOf r ≡ S.deleteOf (sessionOf b) = post ∙ ap S.deleteOf e in
-    rw q (delete-ok ls lk b st k g)
-does-ok {ls} {lk} {b} (does-lost κs s st k r ask post) e g =
-    let q : S.stepOf r ≡ S.lostOf (sessionOf b) = post ∙ ap S.lostOf e in
-    rw q (lost-ok ls lk b st k g)
+-- one call of functions that do as the definitions say
+called-ok : {ls lk : ℕ} {b : Book} {st k : List ℕ} (c : Call) → Good ls lk b st k → Ok ls lk (toldBy (sessionOf b) st k c) (noted ls lk b c) (stagingBy (sessionOf b) st c) (keptBy (sessionOf b) st k c)
+called-ok {ls} {lk} {b} {st} {k} (offer n) g = offer-ok ls lk b st k g n
+called-ok {ls} {lk} {b} {st} {k} (transfer p) g = transfer-ok ls lk b st k g p
+called-ok {ls} {lk} {b} {st} {k} (activate t) g = activate-ok ls lk b st k g t
+called-ok {ls} {lk} {b} {st} {k} deactivate g = deactivate-ok ls lk b st k g
+called-ok {ls} {lk} {b} {st} {k} delete g = delete-ok ls lk b st k g
+called-ok {ls} {lk} {b} {st} {k} lost g = lost-ok ls lk b st k g
+
+-- what such a call tells and leaves is what the book notes
+pub record Done (F : Functions) (ls lk : ℕ) (m : Noted) (r : F .Step) (st k : List ℕ) : Type 0 where
+  pub said : F .told r ≡ m .told
+  pub session : F .session r ≡ sessionOf (m .book)
+  pub good : Good ls lk (m .book) st k
+
+pub did-ok : (F : Functions) {ls lk : ℕ} {b : Book} {s : Session} {st k st' k' : List ℕ} {t' : List Record} {c : Call} {r : F .Step}
+    → Did F s st k c r st' k' t' → s ≡ sessionOf b → Good ls lk b st k → Done F ls lk (noted ls lk b c) r st' k'
+did-ok F {ls} {lk} {b} {s} {st} {k} {st'} {k'} {c = c} d e g =
+    let o = called-ok c g in
+    record {
+      said = d .said ∙ ap (λ (x : Session). saidIn (toldBy x st k c .reply)) e ∙ o .said;
+      session = d .session ∙ ap (λ (x : Session). toldBy x st k c .session) e ∙ o .session;
+      good = rw (d .staging ∙ ap (λ (x : Session). stagingBy x st c) e, d .area ∙ ap (λ (x : Session). keptBy x st k c) e) (o .good);
+    }

@@ -7,7 +7,6 @@ use Prim.Native.Nat.{ℕ, _+_, _-_, _≤_, _<_}
 use native.Mathlib.Omega.{arith}
 use native.Mathlib.Nat.{zero-add}
 use borrow.Author.Tests.{ltb-true, ltb-false, le-ltb, eqb-true, ne-eqb}
-use denote.Ref.{now}
 use lib.Dec.{eqb, ltb}
 use lib.ListN.{length, take, drop}
 use lib.Seq.{sets, sets-eq}
@@ -20,11 +19,11 @@ use Rattle.session.specs.Calls as S
 use Rattle.activation.specs.Activating as Act
 use Rattle.activation.proofs.Settled.{check-low}
 use Rattle.session.specs.declared.Session.{Session}
-use Rattle.session.specs.declared.Step.{Step}
-use Rattle.book.specs.Book.{Said, said, Book, Noted, noted, note, checked, firstIn, Call, offer, transfer, activate, deactivate, delete, lost}
-use Rattle.book.specs.Run.{sessionOf, Does, does-offer, does-transfer, does-activate, does-deactivate, does-delete, does-lost}
+use Rattle.book.specs.Book.{Said, said, Book, Noted, noted, note, tabled, checked, firstIn, Call, offer, transfer, activate, deactivate, delete, lost}
+use Rattle.book.specs.Run.{Functions, sessionOf}
 use Rattle.book.specs.Claim.{Accepted, Turn, won, deleted, stays}
-use Rattle.book.proofs.Good.{Good, possible, offered-stage}
+use Rattle.book.proofs.Good.{Good, possible, is-one}
+use Rattle.book.proofs.Follows.{keptBy, tableBy, Did}
 use Rattle.book.proofs.Steps.{by-case}
 use Rattle.book.proofs.Acceptance.{exactly-accepted}
 
@@ -87,7 +86,7 @@ module _ (ls lk : ℕ) (b : Book) (st k : List ℕ) (g : Good ls lk b st k) wher
   untouched : (room : ℕ) → (b .offered ≡ false) ⊎ (ltb (length (b .arrived)) (b .announced) ≡ true) → Act.keptAfter (sessionOf b) st k room ≡ k
   unfolding Act.keptAfter Act.isChecked
   untouched room =
-      rw (possible ls lk b st k g, offered-stage (b .offered))
+      rw (possible ls lk b st k g, is-one (b .offered))
       (⊎-elim (λ (o : b .offered ≡ false). rw o) (λ (e : ltb (length (b .arrived)) (b .announced) ≡ true). by-case (b .offered) (λ o. rw (o, e)) (λ o. rw o)))
 
   reached : (room : ℕ) → b .offered ≡ true → ltb (length (b .arrived)) (b .announced) ≡ false
@@ -96,7 +95,7 @@ module _ (ls lk : ℕ) (b : Book) (st k : List ℕ) (g : Good ls lk b st k) wher
   reached room o e1 =
       let q : length (b .arrived) ≡ b .announced = omega (arith, g .part, ltb-false (length (b .arrived)) (b .announced) e1) in
       let p : take (b .announced) st ≡ b .arrived = ap (λ (n : ℕ). take n st) (sym q) ∙ g .staged in
-      rw (possible ls lk b st k g, offered-stage (b .offered), g .long-st, g .long-k, o, e1, le-ltb ls (b .announced) (g .in-st), le-ltb lk (b .announced) (g .in-k), p)
+      rw (possible ls lk b st k g, is-one (b .offered), g .long-st, g .long-k, o, e1, le-ltb ls (b .announced) (g .in-st), le-ltb lk (b .announced) (g .in-k), p)
 
   activate-turn : (t : List Record) → Turn b (noted ls lk b (activate t) .book) k (activate t) (noted ls lk b (activate t) .told) (Act.keptAfter (sessionOf b) st k (length t))
   unfolding noted
@@ -131,17 +130,40 @@ lost-kept : (ls lk : ℕ) (b : Book) → noted ls lk b lost .book .kept ≡ b .k
 unfolding noted
 lost-kept ls lk b = refl
 
-pub turn : {ls lk : ℕ} {b : Book} {s : Session} {st k st' k' : List ℕ} {c : Call} {r : Step} → Does s st k c r st' k' → s ≡ sessionOf b → Good ls lk b st k
-    → Turn b (noted ls lk b c .book) k c (noted ls lk b c .told) k'
-unfolding tag
-turn {ls} {lk} {b} (does-offer κs s n st k r ask post) e g = stays (offer n) _ (λ t z. other (offer n) refl t z) (offer-kept ls lk b (now st) (now k) g n)
-turn {ls} {lk} {b} (does-transfer κs s p st k r st' ask post) e g = stays (transfer (now p)) _ (λ t z. other (transfer (now p)) refl t z) (transfer-kept ls lk b (now st) k g (now p))
-turn {ls} {lk} {b} (does-activate κs s st k t r k' t' post) e g =
-    let w : k' ≡ Act.keptAfter (sessionOf b) (now st) (now k) (length (now t)) = post .1 ∙ ap (λ (x : Session). Act.keptAfter x (now st) (now k) (length (now t))) e in
-    rw w (activate-turn ls lk b (now st) (now k) g (now t))
-turn {ls} {lk} {b} (does-deactivate κs s st k r ask post) e g = stays deactivate _ (λ t z. other deactivate refl t z) (deactivate-kept ls lk b st k g)
-turn (does-delete κs s st k r ask post) e g = deleted _
-turn {ls} {lk} {b} (does-lost κs s st k r ask post) e g = stays lost _ (λ t z. other lost refl t z) (lost-kept ls lk b)
+kept-turn : {ls lk : ℕ} {b : Book} {st k : List ℕ} (c : Call) → Good ls lk b st k → Turn b (noted ls lk b c .book) k c (noted ls lk b c .told) (keptBy (sessionOf b) st k c)
+unfolding tag noted
+kept-turn {ls} {lk} {b} {st} {k} (offer n) g = stays (offer n) _ (λ t z. other (offer n) refl t z) (offer-kept ls lk b st k g n)
+kept-turn {ls} {lk} {b} {st} {k} (transfer p) g = stays (transfer p) _ (λ t z. other (transfer p) refl t z) (transfer-kept ls lk b st k g p)
+kept-turn {ls} {lk} {b} {st} {k} (activate t) g = activate-turn ls lk b st k g t
+kept-turn {ls} {lk} {b} {st} {k} deactivate g = stays deactivate _ (λ t z. other deactivate refl t z) (deactivate-kept ls lk b st k g)
+kept-turn delete g = deleted _ refl
+kept-turn {ls} {lk} {b} lost g = stays lost _ (λ t z. other lost refl t z) (lost-kept ls lk b)
+
+pub turn : (F : Functions) {ls lk : ℕ} {b : Book} {s : Session} {st k st' k' : List ℕ} {t' : List Record} {c : Call} {r : F .Step}
+    → Did F s st k c r st' k' t' → s ≡ sessionOf b → Good ls lk b st k → Turn b (noted ls lk b c .book) k c (noted ls lk b c .told) k'
+turn F {st = st} {k = k} {c = c} d e g = rw (d .area ∙ ap (λ (x : Session). keptBy x st k c) e) (kept-turn c g)
+
+-- the table that a call leaves
+table-noted : {ls lk : ℕ} {b : Book} {st k : List ℕ} (c : Call) → Good ls lk b st k → tableBy (sessionOf b) st k c ≡ tabled ls lk b c
+unfolding tabled Act.activatedRecords Act.isChecked
+table-noted (offer n) g = refl
+table-noted (transfer p) g = refl
+table-noted {ls} {lk} {b} {st} {k} (activate t) g =
+    rw (possible ls lk b st k g, is-one (b .offered), g .long-st, g .long-k)
+    (by-case (b .offered)
+    (λ o.
+    by-case (ltb (length (b .arrived)) (b .announced)) (λ e1. rw (o, e1)) (λ e1.
+    let q : length (b .arrived) ≡ b .announced = omega (arith, g .part, ltb-false (length (b .arrived)) (b .announced) e1) in
+    let p : take (b .announced) st ≡ b .arrived = ap (λ (n : ℕ). take n st) (sym q) ∙ g .staged in
+    rw (o, e1, le-ltb ls (b .announced) (g .in-st), le-ltb lk (b .announced) (g .in-k), p)))
+    (λ o. rw o))
+table-noted deactivate g = refl
+table-noted delete g = refl
+table-noted lost g = refl
+
+pub tables : (F : Functions) {ls lk : ℕ} {b : Book} {s : Session} {st k st' k' : List ℕ} {t' : List Record} {c : Call} {r : F .Step}
+    → Did F s st k c r st' k' t' → s ≡ sessionOf b → Good ls lk b st k → t' ≡ tabled ls lk b c
+tables F {st = st} {k = k} {c = c} d e g = d .table ∙ ap (λ (x : Session). tableBy x st k c) e ∙ table-noted c g
 
 -- the book never tells 27
 checked-possible : (b : Book) (p : List ℕ) (room : ℕ) → checked b (checkOf p room) .told .number ≡ 27 → ⊥

@@ -1,12 +1,14 @@
 -- The plain book of document 01: what a client sent, and what it was told. It is fed the calls' arguments and of the two areas
--- only their lengths; of the session's definitions it has none, and of all others only checking. Definitions only.
+-- only their lengths; of the session's definitions it has none, and of all others only checking and the table after reading.
+-- Definitions only.
 use Prim.Native.Nat.{ℕ, _-_}
-use mathlib.Core.Bool.{Bool, true, false, _||_}
+use mathlib.Core.Bool.{Bool, true, false, not, _&&_, _||_}
 use mathlib.Core.List.{List, [], _∷_, _++_}
 use lib.Dec.{eqb, ltb}
 use lib.ListN.{length}
 use Rattle.pool.specs.Answer.{Answer}
 use Rattle.working_table.specs.declared.Record.{Record}
+use Rattle.working_table.specs.Table.{recordsAfter}
 use Rattle.faults.specs.Faults.{Fault, fault}
 use Rattle.rules.specs.Table.{breachesOf}
 use Rattle.checker.specs.Checking.{checkOf}
@@ -108,3 +110,16 @@ bookOf ls lk b (c ∷ cs) = bookOf ls lk (noted ls lk b c .book) cs
 unfoldable pub saidOf : ℕ → ℕ → Book → List Call → List Said
 saidOf ls lk b [] = []
 saidOf ls lk b (c ∷ cs) = noted ls lk b c .told ∷ saidOf ls lk (noted ls lk b c .book) cs
+
+-- the table that a call leaves: activating reads an offered pool that is there whole, with both areas long enough, and fills the
+-- table where reading succeeds. Other calls have no table
+unfoldable pub tabled : ℕ → ℕ → Book → Call → List Record
+tabled ls lk b (offer n) = []
+tabled ls lk b (transfer piece) = []
+tabled ls lk b (activate table) =
+    if b .offered && (not (ltb (length (b .arrived)) (b .announced)) && not (ltb ls (b .announced) || ltb lk (b .announced)))
+    then recordsAfter (b .arrived) table
+    else table
+tabled ls lk b deactivate = []
+tabled ls lk b delete = []
+tabled ls lk b lost = []

@@ -1,83 +1,44 @@
--- A list of calls run on a session and its two areas. Each call's outcome is one that the contract of its function allows:
--- `Asked` and `Learnt` are the prover's own readings of what a function asks of its caller and of what it promises, so nothing
--- here says a contract again. Definitions only.
-use mathlib.Core.Path.{_≡_, refl}
-use mathlib.Core.Bool.{Bool, true, false}
+-- A list of session calls, whichever functions answer them. Definitions only.
+use mathlib.Core.Path.{_≡_}
+use mathlib.Core.Bool.{cond}
 use mathlib.Core.List.{List, [], _∷_}
 use Prim.Native.Nat.{ℕ}
 use lib.ListN.{length, take}
-use denote.Ref.{RefT, now, at-last}
-use contract.Lifetimes.{Lfts}
-use Rattle.session.specs.Answers.{Reply, replyOf}
-use Rattle.session.specs.declared.Answer.{Answer}
 use Rattle.session.specs.declared.Session.{Session}
-use Rattle.session.specs.declared.Stage.{Stage}
-use Rattle.session.specs.declared.Stage.the-variants.{Idle, Offered}
-use Rattle.session.specs.declared.Step.{Step}
-use Rattle.session.proofs.new.Reads as new-reads
-use Rattle.session.proofs.offer.Reads as offer-reads
-use Rattle.session.proofs.transfer.Reads as transfer-reads
-use Rattle.activation.proofs.activate as activate-contract
-use Rattle.session.proofs.deactivate.Reads as deactivate-reads
-use Rattle.session.proofs.delete.Reads as delete-reads
-use Rattle.session.proofs.lost.Reads as lost-reads
 use Rattle.working_table.specs.declared.Record.{Record}
-use Rattle.book.specs.Says.{Says}
-use Rattle.book.specs.Book.{Said, Book, Call, offer, transfer, activate, deactivate, delete, lost}
+use Rattle.book.specs.Book.{Said, Book, Call}
 
--- what activating promises, which has no such reading since it takes a slice of records: the contract's own text, which `refl`
--- holds to the whole of the contract. It asks nothing
-abbrev pub activate-says : Says activate-contract.ended (λ M. activate-contract.clauses)
-activate-says = record { Learnt = _; exact = λ w. refl }
-
--- one call, from a session value, staging and the kept area: the step that it returns, and what it leaves in the two areas
-pub data Does : Session → List ℕ → List ℕ → Call → Step → List ℕ → List ℕ → Type 0 where
-  does-offer : (κs : Lfts 2) (s : Session) (n : ℕ) (st k : RefT (List ℕ)) (r : Step)
-      → offer-reads.Asked κs (s, (n, (st, (k, tt)))) → offer-reads.Learnt κs (s, (n, (st, (k, tt)))) r (s, (n, (st, (k, tt))))
-      → Does s (now st) (now k) (offer n) r (now st) (now k)
-  does-transfer : (κs : Lfts 2) (s : Session) (p st : RefT (List ℕ)) (k : List ℕ) (r : Step) (st' : List ℕ)
-      → transfer-reads.Asked κs (s, (p, (st, tt))) → transfer-reads.Learnt κs (s, (p, (st, tt))) r (s, (p, (at-last st st', tt)))
-      → Does s (now st) k (transfer (now p)) r st' k
-  does-activate : (κs : Lfts 3) (s : Session) (st k : RefT (List ℕ)) (t : RefT (List Record)) (r : Step) (k' : List ℕ) (t' : List Record)
-      → activate-says .Learnt κs (s, (st, (k, (t, tt)))) r (s, (st, (at-last k k', (at-last t t', tt))))
-      → Does s (now st) (now k) (activate (now t)) r (now st) k'
-  does-deactivate : (κs : Lfts 0) (s : Session) (st k : List ℕ) (r : Step)
-      → deactivate-reads.Asked κs (s, tt) → deactivate-reads.Learnt κs (s, tt) r (s, tt) → Does s st k deactivate r st k
-  does-delete : (κs : Lfts 0) (s : Session) (st k : List ℕ) (r : Step)
-      → delete-reads.Asked κs (s, tt) → delete-reads.Learnt κs (s, tt) r (s, tt) → Does s st k delete r st k
-  does-lost : (κs : Lfts 0) (s : Session) (st k : List ℕ) (r : Step)
-      → lost-reads.Asked κs (s, tt) → lost-reads.Learnt κs (s, tt) r (s, tt) → Does s st k lost r st k
+-- the functions of a session: what the claim is stated of, once for all that keep it. Those of Rattle stand in `InRattle`, those
+-- that C calls in `InC` of the crate `c_sessions`
+pub record Functions : Type 1 where
+  -- what a call returns: the value that it leaves, and what the client is told
+  pub Step : Type 0
+  pub session : Step → Session
+  pub told : Step → Said
+  -- a new session value
+  pub New : Session → Type 0
+  -- one call, from a session value, staging and the kept area: the step that it may return, and what it may leave in the two areas
+  -- and in its table
+  pub Does : Session → List ℕ → List ℕ → Call → Step → List ℕ → List ℕ → List Record → Type 0
+  -- no call asks anything of its caller
+  pub Free : Type 0
 
 -- a list of calls: each gets the session value and the areas as the last one left them
-pub data Runs : Session → List ℕ → List ℕ → List Call → List Answer → Session → List ℕ → List ℕ → Type 0 where
-  ends : (s : Session) (st k : List ℕ) → Runs s st k [] [] s st k
-  goes : {s s' : Session} {st k st' k' st'' k'' : List ℕ} {c : Call} {cs : List Call} {r : Step} {qs : List Answer}
-      → Does s st k c r st' k' → Runs (r .session) st' k' cs qs s' st'' k'' → Runs s st k (c ∷ cs) (r .answer ∷ qs) s' st'' k''
-
--- a new session, as `new` gives it
-pub data New : Session → Type 0 where
-  is-new : (κs : Lfts 0) (s : Session) → new-reads.Asked κs tt → new-reads.Learnt κs tt s tt → New s
-
--- no call asks anything of its caller; of activating `activate-says` says it
-pub record Free : Type 0 where
-  pub of-new : (κs : Lfts 0) → new-reads.Asked κs tt
-  pub of-offer : (κs : Lfts 2) (s : Session) (n : ℕ) (st k : RefT (List ℕ)) → offer-reads.Asked κs (s, (n, (st, (k, tt))))
-  pub of-transfer : (κs : Lfts 2) (s : Session) (p st : RefT (List ℕ)) → transfer-reads.Asked κs (s, (p, (st, tt)))
-  pub of-deactivate : (κs : Lfts 0) (s : Session) → deactivate-reads.Asked κs (s, tt)
-  pub of-delete : (κs : Lfts 0) (s : Session) → delete-reads.Asked κs (s, tt)
-  pub of-lost : (κs : Lfts 0) (s : Session) → lost-reads.Asked κs (s, tt)
-
--- what a client is told by an answer: the numbers that the session's own table gives for it
-abbrev pub told : Answer → Said
-told a = record { number = replyOf a .number; place = replyOf a .place; first = replyOf a .first }
-
-abbrev pub stageOf : Bool → Stage
-stageOf true = Offered
-stageOf false = Idle
+pub data Runs (F : Functions) : Session → List ℕ → List ℕ → List Call → List (F .Step) → Session → List ℕ → List ℕ → Type 0 where
+  ends : (s : Session) (st k : List ℕ) → Runs F s st k [] [] s st k
+  goes : {s s' : Session} {st k st' k' st'' k'' : List ℕ} {t' : List Record} {c : Call} {cs : List Call} {r : F .Step} {qs : List (F .Step)}
+      → F .Does s st k c r st' k' t' → Runs F (F .session r) st' k' cs qs s' st'' k'' → Runs F s st k (c ∷ cs) (r ∷ qs) s' st'' k''
 
 -- the session value that a book stands for, field by field
 abbrev pub sessionOf : Book → Session
-sessionOf b = record { stage = stageOf (b .offered); announced = b .announced; received = length (b .arrived); kept = length (b .kept); active = b .active }
+sessionOf b =
+    record {
+      announced = b .announced;
+      received = length (b .arrived);
+      kept = length (b .kept);
+      stage = cond (b .offered) 1 0;
+      active = cond (b .active) 1 0;
+    }
 
 -- an area starts with a list of bytes
 abbrev pub Starts : List ℕ → List ℕ → Type 0

@@ -1,10 +1,11 @@
-// The one claim about every list of session calls. The function does nothing: its contract is the claim, so that the check's
-// report names it.
+// The one claim about every list of session calls, of the functions in Rattle; `c_sessions` has it of those that C calls. The function
+// does nothing: its contract is the claim, so that the check's report names it.
 ghost use mathlib.Core.List.{List};
 ghost use Prim.Native.Nat.{ℕ};
 ghost use Rattle.book.specs.Book.{Call};
 ghost use Rattle.book.specs.Claim.{Booked};
+ghost use Rattle.book.specs.InRattle.{inRattle};
 
 pub fn every_session_keeps_the_book()
-    ensures { λ _. ⌜ ((staging kept : List ℕ) (cs : List Call) → Booked staging kept cs) ⌝ }
+    ensures { λ _. ⌜ ((staging kept : List ℕ) (cs : List Call) → Booked inRattle staging kept cs) ⌝ }
 {}

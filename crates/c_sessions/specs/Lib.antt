@@ -1,0 +1,2 @@
+-- What the contracts of `c_sessions` cite.
+pub mod InC
