@@ -1,0 +1,91 @@
+-- What the C functions over a pool promise: read, check, one text examined, texts, labels, a command judged. Definitions only.
+use Prim.Native.Nat.{ℕ, _≤_, _<_}
+use mathlib.Core.Path.{_≡_, refl}
+use mathlib.Core.Bool.{Bool, true}
+use mathlib.Core.Logic.{_↔_}
+use mathlib.Core.List.{List, _++_, map}
+use denote.Ref.{RefT, now, at-last}
+use contract.Lifetimes.{Lfts}
+use lib.IntN.{ℤ}
+use lib.ListN.{length, drop}
+use Rattle.division.specs.Division.{Division, Divides}
+use Rattle.pool.specs.Answer.{answer}
+use Rattle.pool.specs.Reading.{readOf}
+use Rattle.working_table.specs.declared.Record.{Record}
+use Rattle.working_table.specs.Table.{recordOf}
+use Rattle.text.specs.Examined.{Sound}
+use Rattle.checker.specs.Checking.{checkOf, faultsAfter}
+use Rattle.claims.specs.Reads.{listed, Sized, Reads}
+use Rattle.claims.specs.Checks.{Checked}
+use Rattle.device.specs.Queries.{Labelled}
+use Rattle.device.specs.declared.DeviceLabels.{DeviceLabels}
+use Rattle.judging.specs.Judging.{judgeNumber, judgeError}
+use Rattle.terminal.specs.Texts.{Gives}
+use Rattle.book.specs.Says.{Says}
+use Rattle.terminal.proofs.lachsbrille_read as read-c
+use Rattle.terminal.proofs.lachsbrille_check as check-c
+use Rattle.terminal.proofs.lachsbrille_text_is_sound as sound-c
+use Rattle.terminal.proofs.lachsbrille_text as text-c
+use Rattle.terminal.proofs.lachsbrille_labels as labels-c
+use Rattle.terminal.proofs.exchange.lachsbrille_judge as judge-c
+
+-- what each contract says: its own text, which `refl` holds to the whole of the contract, so none asks anything of its caller and no
+-- clause can be left out
+abbrev pub read-says : Says read-c.ended (λ M. read-c.clauses)
+read-says = record { Learnt = _; exact = λ w. refl }
+
+abbrev pub check-says : Says check-c.ended (λ M. check-c.clauses)
+check-says = record { Learnt = _; exact = λ w. refl }
+
+abbrev pub sound-says : Says sound-c.ended (λ M. sound-c.clauses)
+sound-says = record { Learnt = _; exact = λ w. refl }
+
+abbrev pub text-says : Says text-c.ended (λ M. text-c.clauses)
+text-says = record { Learnt = _; exact = λ w. refl }
+
+abbrev pub labels-says : Says labels-c.ended (λ M. labels-c.clauses)
+labels-says = record { Learnt = _; exact = λ w. refl }
+
+abbrev pub judge-says : Says judge-c.ended (λ M. judge-c.clauses)
+judge-says = record { Learnt = _; exact = λ w. refl }
+
+-- the table after a call that reads a pool: where the pool has a size that can be read, divides into records and the table holds
+-- them, it starts with their entries and later ones stay; else all of it stays
+pub record Filled (p : List ℕ) (table left : List Record) : Type 0 where
+  pub read : (rs : List (List ℕ)) (d : Division p rs) → Sized p → length rs ≤ length table → left ≡ map recordOf (listed rs (d .whole) 0) ++ drop (length rs) table
+  pub stays : ((d : Divides p) → Sized p → length (d .parts) ≤ length table → ⊥) → left ≡ table
+
+-- a pool read: number and value are reading's answer, of which `Reads` says by the division alone what it means
+pub record ReadInto (p : List ℕ) (before : List Record) (number value : ℕ) (left : List Record) : Type 0 where
+  pub answered : answer number value ≡ readOf p (length before)
+  pub means : Reads p (length before)
+  pub table : Filled p before left
+
+-- a pool checked: the same of checking, and the fault buffer
+pub record CheckedInto (p : List ℕ) (before : List Record) (faults : List ℕ) (number value : ℕ) (left : List Record) (written : List ℕ) : Type 0 where
+  pub answered : answer number value ≡ checkOf p (length before)
+  pub means : (rs : List (List ℕ)) (d : Division p rs) → Sized p → length rs ≤ length before → Checked p rs d (length before)
+  pub table : Filled p before left
+  pub buffer : written ≡ faultsAfter p (length before) faults
+
+-- a command judged: for an element number over 4,095 the pool is not looked at
+pub record JudgedInto (p : List ℕ) (before : List Record) (command element ddi : ℕ) (value : ℤ) (number byte : ℕ) (left : List Record) : Type 0 where
+  pub answered : number ≡ judgeNumber p (length before) element
+  pub error : byte ≡ judgeError p (length before) command element ddi value
+  pub table : element ≤ 4095 → Filled p before left
+  pub stays : 4095 < element → left ≡ before
+
+pub record PoolsAnswered : Type 0 where
+  pub read : (κs : Lfts 3) (p : RefT (List ℕ)) (t : RefT (List Record)) (v : RefT ℕ) (r : ℕ) (t' : List Record) (v' : ℕ)
+      → read-says .Learnt κs (p, (t, (v, tt))) r (p, (at-last t t', (at-last v v', tt))) → ReadInto (now p) (now t) r v' t'
+  pub check : (κs : Lfts 4) (p : RefT (List ℕ)) (t : RefT (List Record)) (b : RefT (List ℕ)) (v : RefT ℕ) (r : ℕ) (t' : List Record) (b' : List ℕ) (v' : ℕ)
+      → check-says .Learnt κs (p, (t, (b, (v, tt)))) r (p, (at-last t t', (at-last b b', (at-last v v', tt)))) → CheckedInto (now p) (now t) (now b) r v' t' b'
+  pub sound : (κs : Lfts 1) (s : RefT (List ℕ)) (r : Bool) → sound-says .Learnt κs (s, tt) r (s, tt) → (r ≡ true) ↔ Sound (now s)
+  pub text : (κs : Lfts 4) (p : RefT (List ℕ)) (t : RefT (List Record)) (id : ℕ) (from to : RefT ℕ) (r : ℕ) (t' : List Record) (from' to' : ℕ)
+      → text-says .Learnt κs (p, (t, (id, (from, (to, tt))))) r (p, (at-last t t', (id, (at-last from from', (at-last to to', tt)))))
+      → Gives (now p) (length (now t)) id r from' to' × Filled (now p) (now t) t'
+  pub labels : (κs : Lfts 2) (p : RefT (List ℕ)) (t : RefT (List Record)) (r : DeviceLabels) (t' : List Record)
+      → labels-says .Learnt κs (p, (t, tt)) r (p, (at-last t t', tt)) → Labelled (now p) (length (now t)) r × Filled (now p) (now t) t'
+  pub judge : (κs : Lfts 3) (p : RefT (List ℕ)) (t : RefT (List Record)) (command element ddi : ℕ) (value : ℤ) (e : RefT ℕ) (r : ℕ) (t' : List Record) (e' : ℕ)
+      → judge-says .Learnt κs (p, (t, (command, (element, (ddi, (value, (e, tt))))))) r (p, (at-last t t', (command, (element, (ddi, (value, (at-last e e', tt)))))))
+      → JudgedInto (now p) (now t) command element ddi value r e' t'
