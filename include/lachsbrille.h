@@ -39,6 +39,9 @@ extern "C" {
 
 /* ---- Numbers ------------------------------------------------------------------------------------------------------- */
 
+/* The version of this header, 1.0.0: major * 10000 + minor * 100 + patch. */
+#define LACHSBRILLE_VERSION 10000u
+
 /* Why a call is refused. */
 enum lachsbrille_refusal {
     LACHSBRILLE_OK = 0,
