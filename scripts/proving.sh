@@ -90,7 +90,8 @@ show_progress() {
             now="$now $crate"
         fi
     done
-    line="$program: $ended of $count crates proved, now:${now:- $crate} ($shown s)"
+    if [ "$ended" -eq $((count - 1)) ]; then now=${now:- $crate}; fi
+    line="$program: $ended of $count crates proved${now:+, now:$now} ($shown s)"
     printf '\r%s\033[K' "${line:0:79}" >&2
 }
 
