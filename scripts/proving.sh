@@ -46,6 +46,7 @@ prove() { # WHAT LOG CRATES COMMAND...
     say "proving $1, which takes some minutes the first time; the log is $log"
     shift 3
     mkdir -p target/log
+    wait_for_turn
     for crate in $crates; do rm -f "target/log/$crate.out"; done
     began=$SECONDS
     # As a job of its own, so that all its provers can be ended at once.
@@ -63,15 +64,26 @@ prove() { # WHAT LOG CRATES COMMAND...
     status=0
     wait "$prover" || status=$?
     trap - INT TERM HUP
+    exec {turn}>&-
     [ "$status" -eq 0 ] || {
         tail -n 30 "$log" >&2
         fail "$(grep -o 'FAILED:.*' "$log" || echo 'not everything is proved'); the log is $log"
     }
 }
 
+# Two runs of rt at once share the logs in target/, and each takes the other's crates in progress for failed ones.
+wait_for_turn() {
+    exec {turn}>target/proving.lock
+    flock -n "$turn" || {
+        say 'waiting for another run that proves here'
+        flock "$turn"
+    }
+}
+
 end_provers() { # STATUS
     trap - INT TERM HUP
     kill -- "-$prover" 2>/dev/null || true
+    wait "$prover" 2>/dev/null || true
     if [ -t 2 ]; then echo >&2; fi
     exit "$1"
 }
