@@ -42,8 +42,8 @@ rests_on() { # CRATE...
 
 # Runs a command that proves some crates, with all that it says in a log. On a terminal one line says how far it is.
 prove() { # WHAT LOG CRATES COMMAND...
-    log=$2 crates=$3 shown=-1
-    say "proving $1, which takes some minutes the first time; the log is $log"
+    what=$1 log=$2 crates=$3 shown=-1
+    say "proving $what, which takes some minutes the first time; the log is $log"
     shift 3
     mkdir -p target/log
     wait_for_turn
@@ -67,12 +67,14 @@ prove() { # WHAT LOG CRATES COMMAND...
     exec {turn}>&-
     [ "$status" -eq 0 ] || {
         tail -n 30 "$log" >&2
-        fail "$(grep -o 'FAILED:.*' "$log" || echo 'not everything is proved'); the log is $log"
+        failed=$(sed -n 's/^rt: FAILED: *//p' "$log")
+        fail "not proved: ${failed:-$what}; the log is $log"
     }
 }
 
 # Two runs of rt at once share the logs in target/, and each takes the other's crates in progress for failed ones.
 wait_for_turn() {
+    need flock 'it comes with util-linux'
     exec {turn}>target/proving.lock
     flock -n "$turn" || {
         say 'waiting for another run that proves here'
