@@ -75,7 +75,7 @@ prove() { # WHAT LOG CRATES COMMAND...
 # Two runs of rt at once share the logs in target/, and each takes the other's crates in progress for failed ones.
 wait_for_turn() {
     need flock 'it comes with util-linux'
-    exec {turn}>target/proving.lock
+    { exec {turn}>target/proving.lock; } 2>/dev/null || fail "$PWD/target cannot be written"
     flock -n "$turn" || {
         say 'waiting for another run that proves here'
         flock "$turn"
@@ -146,6 +146,7 @@ build_library() {
     up_to_date target/library.made-from terminal "$library" "$module" && return
     prove 'the library' target/library.log "$(rests_on terminal)" compile_library
     [ -f "$module" ] || fail 'the kit compiled no module that could be kept'
+    chmod 644 "$module"
     now_up_to_date "$library" "$module"
 }
 
