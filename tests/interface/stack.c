@@ -16,7 +16,7 @@
 /* No call takes more, whatever it is lent. Pools of up to SHORT_POOL bytes and lists of up to SHORT_LIST entries take shorter lists
  * inside, and what that comes to is printed. */
 enum { BOUND = 64 << 10, SHORT_POOL = 12276, SHORT_LIST = 64 };
-enum { STACK = 4 << 20, PAGE = 1 << 16, UNUSED = 0xA5 };
+enum { STACK = 1 << 20, PAGE = 1 << 16, UNUSED = 0xA5 };
 enum { DEVICE = 31, ELEMENT = 13, DATA = 12, LIST_COUNT = 11, LIST = 13, ENTRY = 2 };
 
 static lachsbrille_record table[LACHSBRILLE_RECORDS_MOST];
@@ -135,12 +135,13 @@ static unsigned char *new_stack(size_t size)
     return memory + PAGE;
 }
 
+/* The page counts as part of the stack, of which some machines' threads must have more than the bound. */
 static void run_on(unsigned char *stack, size_t size, void (*run)(void))
 {
     pthread_attr_t attributes;
     pthread_t thread;
 
-    if (pthread_attr_init(&attributes) != 0 || pthread_attr_setstack(&attributes, stack, size) != 0 ||
+    if (pthread_attr_init(&attributes) != 0 || pthread_attr_setstack(&attributes, stack - PAGE, PAGE + size) != 0 ||
         pthread_create(&thread, &attributes, enter, &run) != 0 || pthread_join(thread, NULL) != 0) {
         give_up("no thread");
     }

@@ -49,21 +49,36 @@ fn read_input(input: &mut [u8]) -> Input
     Input::Bytes(n)
 }
 
-fn flush(out: &[u8], n: usize) {
-    if n <= out.len() {
-        io::write_all(STDOUT_FILENO, &out[0..n]);
+// A place behind every buffer: what is put there is left out, and nothing from there is written.
+const NOWHERE: usize = 18446744073709551615;
+
+// Writes out what stands before a place. A write that fails is said on standard error, once: there is no room after it.
+fn flush(out: &[u8], n: usize) -> bool {
+    if out.len() < n {
+        return false;
     }
+    if io::write_all(STDOUT_FILENO, &out[0..n]) {
+        return true;
+    }
+    io::write_all(
+        STDERR_FILENO,
+        b"lister: standard output cannot be written\n",
+    );
+    false
 }
 
-// Writes out what is there where a further line, of at most 32 bytes, might not fit, and gives the place to go on at.
+// Writes out what is there where a further line, of at most 32 bytes, might not fit, and gives the place to go on at. A
+// listing of which a part could not be written gets no further line.
 fn make_room(out: &[u8], at: usize) -> usize {
     if at < out.len() {
         if 64 < out.len() - at {
             return at;
         }
     }
-    flush(out, at);
-    0
+    if flush(out, at) {
+        return 0;
+    }
+    NOWHERE
 }
 
 // How far one place lies behind another, 0 where it lies before it.
