@@ -47,7 +47,7 @@ impl Tape<'_> {
 }
 
 fn marked(layout: u32, mark: u32) -> bool {
-    u32::from(layout) / 2_u32.pow(mark) % 2 == 1
+    layout / 2_u32.pow(mark) % 2 == 1
 }
 
 /// What has limits, in the order of the refusals 41 to 45.
@@ -269,7 +269,7 @@ impl Maker {
 /// Any layout; a third of them is in range once its upper half is gone.
 fn any_layout(random: &mut Random) -> u32 {
     let any = random.draw() as u32;
-    random.pick(&[any, any % 0x1_0000, 0x1_0000 | any % 512])
+    random.pick(&[any, any % 0x1_0000, 0x1_0000 | (any % 512)])
 }
 
 /// A refusal counts by its number, an answer as 0.

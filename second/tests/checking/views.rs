@@ -95,7 +95,7 @@ fn texts_are_those_of_a_query() {
     for pool in [pool_of_all_kinds(), pool_q()] {
         let mut table = table_for(&pool);
         let count = read_pool(&pool, &mut table).unwrap();
-        for record in table[..count].to_vec() {
+        for record in table.clone().into_iter().take(count) {
             let asked = text(&pool, &mut table, record.id.into()).unwrap();
             let viewed = &pool[designator(&pool, record.kind, record.start)];
             assert!(std::ptr::eq(asked, viewed));
