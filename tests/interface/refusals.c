@@ -34,6 +34,17 @@ static void left(const void *lent, size_t size)
     }
 }
 
+/* Whether a part of a result is 0, as all of it but the number is after a refusal. */
+static void zero(const void *part, size_t size)
+{
+    const uint8_t *bytes = (const uint8_t *)part;
+    size_t at;
+
+    for (at = 0; at < size; at++) {
+        EQUAL(bytes[at], 0);
+    }
+}
+
 /* ---- Pools: every call with a table refuses a pool alike ---- */
 
 static lachsbrille_record table[ENTRIES];
@@ -58,8 +69,9 @@ static void not_read(const uint8_t *pool, size_t length, size_t entries, uint32_
     EQUAL(to, 0);
     labels = labels_of(pool, length, table, entries);
     REFUSED(labels.number, name);
-    EQUAL(labels.structure[0], 0);
-    EQUAL(labels.localization[6], 0);
+    zero(labels.structure, sizeof labels.structure);
+    zero(labels.localization, sizeof labels.localization);
+    zero(labels.extended, sizeof labels.extended);
     EQUAL(labels.extended_length, 0);
     REFUSED(lachsbrille_judge(pool, length, table, entries, 4, 1, 141, 0, &error), name);
     EQUAL(error, 0);
@@ -84,7 +96,11 @@ static unsigned not_activated(const uint8_t *pool, size_t length, size_t entries
     EQUAL(step.place, place);
     EQUAL(step.session.kept, 0);
     EQUAL(step.session.active, 0);
+    EQUAL(step.session.announced, step.session.stage == LACHSBRILLE_STAGE_OFFERED ? length : 0);
     EQUAL(step.session.received, step.session.stage == LACHSBRILLE_STAGE_OFFERED ? length : 0);
+    EQUAL(step.record, name == LACHSBRILLE_FAULTY ? 3 : 0);
+    EQUAL(step.rule, name == LACHSBRILLE_FAULTY ? 6 : 0);
+    EQUAL(step.item, name == LACHSBRILLE_FAULTY ? 2 : 0);
     left(kept, sizeof kept);
     if (name != LACHSBRILLE_FAULTY) {
         left(table, sizeof table);
@@ -166,32 +182,40 @@ static void pools(void)
 
 /* ---- Sessions ---- */
 
+#define STEP_REFUSED(call, session, name) step_refused(__FILE__, __LINE__, #call, call, session, name)
+
+/* A refused call leaves the session as it was given, and has neither a place nor a fault. */
+static void step_refused(const char *file, int line, const char *call, lachsbrille_step step, lachsbrille_session session,
+                         uint32_t name)
+{
+    refused(file, line, call, step.number, name);
+    equal(file, line, call, step.session.announced, session.announced);
+    equal(file, line, call, step.session.received, session.received);
+    equal(file, line, call, step.session.kept, session.kept);
+    equal(file, line, call, step.session.stage, session.stage);
+    equal(file, line, call, step.session.active, session.active);
+    equal(file, line, call, (long long)step.place, 0);
+    equal(file, line, call, step.record, 0);
+    equal(file, line, call, step.rule, 0);
+    equal(file, line, call, step.item, 0);
+}
+
 /* Every session call of a value that can't arise. */
 static void impossible(uint16_t stage, uint16_t active, uint32_t announced, uint32_t received, uint32_t kept_size)
 {
     static uint8_t staging[AREA], kept[AREA];
     lachsbrille_session session = {
         .announced = announced, .received = received, .kept = kept_size, .stage = stage, .active = active};
-    lachsbrille_step steps[6];
-    size_t at;
 
     memset(staging, LEFT, sizeof staging);
     memset(kept, LEFT, sizeof kept);
     memset(table, LEFT, sizeof table);
-    steps[0] = offer(session, 10, staging, AREA, kept, AREA);
-    steps[1] = transfer(session, q, 1, staging, AREA);
-    steps[2] = activate(session, staging, AREA, kept, AREA, table, ENTRIES);
-    steps[3] = deactivate(session);
-    steps[4] = delete_pool(session);
-    steps[5] = lost(session);
-    for (at = 0; at < 6; at++) {
-        REFUSED(steps[at].number, LACHSBRILLE_IMPOSSIBLE_SESSION);
-        EQUAL(steps[at].session.stage, stage);
-        EQUAL(steps[at].session.active, active);
-        EQUAL(steps[at].session.announced, announced);
-        EQUAL(steps[at].session.received, received);
-        EQUAL(steps[at].session.kept, kept_size);
-    }
+    STEP_REFUSED(offer(session, 10, staging, AREA, kept, AREA), session, LACHSBRILLE_IMPOSSIBLE_SESSION);
+    STEP_REFUSED(transfer(session, q, 1, staging, AREA), session, LACHSBRILLE_IMPOSSIBLE_SESSION);
+    STEP_REFUSED(activate(session, staging, AREA, kept, AREA, table, ENTRIES), session, LACHSBRILLE_IMPOSSIBLE_SESSION);
+    STEP_REFUSED(deactivate(session), session, LACHSBRILLE_IMPOSSIBLE_SESSION);
+    STEP_REFUSED(delete_pool(session), session, LACHSBRILLE_IMPOSSIBLE_SESSION);
+    STEP_REFUSED(lost(session), session, LACHSBRILLE_IMPOSSIBLE_SESSION);
     left(staging, sizeof staging);
     left(kept, sizeof kept);
     left(table, sizeof table);
@@ -201,41 +225,34 @@ static void sessions(void)
 {
     static uint8_t staging[AREA], kept[AREA];
     const lachsbrille_session none = lachsbrille_session_new();
-    const lachsbrille_session offered = {.announced = Q, .stage = LACHSBRILLE_STAGE_OFFERED};
+    const lachsbrille_session offered = {.announced = Q, .kept = 9, .stage = LACHSBRILLE_STAGE_OFFERED, .active = 1};
     const lachsbrille_session keeping = {.kept = Q};
     lachsbrille_session session;
-    lachsbrille_step step;
 
     memset(staging, LEFT, sizeof staging);
     memset(kept, LEFT, sizeof kept);
     memset(table, LEFT, sizeof table);
-    REFUSED(offer(none, 0, staging, AREA, kept, AREA).number, LACHSBRILLE_BAD_SIZE);
-    REFUSED(offer(none, LACHSBRILLE_POOL_MOST + 1, staging, AREA, kept, AREA).number,
-            LACHSBRILLE_BAD_SIZE);
-    REFUSED(offer(none, AREA, staging, AREA - 1, kept, AREA).number, LACHSBRILLE_SHORT_AREA);
-    REFUSED(offer(none, AREA, staging, AREA, kept, AREA - 1).number, LACHSBRILLE_SHORT_AREA);
+    STEP_REFUSED(offer(none, 0, staging, AREA, kept, AREA), none, LACHSBRILLE_BAD_SIZE);
+    STEP_REFUSED(offer(none, LACHSBRILLE_POOL_MOST + 1, staging, AREA, kept, AREA), none, LACHSBRILLE_BAD_SIZE);
+    STEP_REFUSED(offer(offered, AREA, staging, AREA - 1, kept, AREA), offered, LACHSBRILLE_SHORT_AREA);
+    STEP_REFUSED(offer(offered, AREA, staging, AREA, kept, AREA - 1), offered, LACHSBRILLE_SHORT_AREA);
 
-    REFUSED(transfer(none, q, 1, staging, AREA).number, LACHSBRILLE_NOTHING_OFFERED);
-    REFUSED(transfer(offered, q, 0, staging, AREA).number, LACHSBRILLE_BAD_PIECE);
-    step = transfer(offered, q, Q, staging, Q - 1);
-    REFUSED(step.number, LACHSBRILLE_SHORT_AREA);
-    EQUAL(step.session.stage, LACHSBRILLE_STAGE_OFFERED);
-    EQUAL(step.session.received, 0);
+    STEP_REFUSED(transfer(none, q, 1, staging, AREA), none, LACHSBRILLE_NOTHING_OFFERED);
+    STEP_REFUSED(transfer(offered, q, 0, staging, AREA), offered, LACHSBRILLE_BAD_PIECE);
+    STEP_REFUSED(transfer(offered, LACHSBRILLE_NOTHING, 0, staging, AREA), offered, LACHSBRILLE_BAD_PIECE);
+    STEP_REFUSED(transfer(offered, q, Q, staging, Q - 1), offered, LACHSBRILLE_SHORT_AREA);
     session = offered;
     session.received = Q - 1;
-    REFUSED(transfer(session, q, 2, staging, AREA).number, LACHSBRILLE_BAD_PIECE);
+    STEP_REFUSED(transfer(session, q, 2, staging, AREA), session, LACHSBRILLE_BAD_PIECE);
 
-    REFUSED(activate(none, staging, AREA, kept, AREA, table, ENTRIES).number,
-            LACHSBRILLE_NOTHING_OFFERED);
-    REFUSED(activate(keeping, staging, 0, kept, Q - 1, table, 0).number, LACHSBRILLE_SHORT_AREA);
-    step = activate(session, staging, AREA, kept, AREA, table, ENTRIES);
-    REFUSED(step.number, LACHSBRILLE_STOPPED_EARLY);
-    EQUAL(step.session.stage, LACHSBRILLE_STAGE_OFFERED);
-    EQUAL(step.session.received, Q - 1);
+    STEP_REFUSED(activate(none, staging, AREA, kept, AREA, table, ENTRIES), none, LACHSBRILLE_NOTHING_OFFERED);
+    STEP_REFUSED(activate(keeping, LACHSBRILLE_NOTHING, 0, kept, Q - 1, LACHSBRILLE_NOTHING, 0), keeping,
+                 LACHSBRILLE_SHORT_AREA);
+    STEP_REFUSED(activate(session, staging, AREA, kept, AREA, table, ENTRIES), session, LACHSBRILLE_STOPPED_EARLY);
     session.received = Q;
-    REFUSED(activate(session, staging, Q - 1, kept, AREA, table, ENTRIES).number, LACHSBRILLE_SHORT_AREA);
-    REFUSED(activate(session, staging, AREA, kept, Q - 1, table, ENTRIES).number, LACHSBRILLE_SHORT_AREA);
-    REFUSED(deactivate(keeping).number, LACHSBRILLE_NOT_ACTIVE);
+    STEP_REFUSED(activate(session, staging, Q - 1, kept, AREA, table, ENTRIES), session, LACHSBRILLE_SHORT_AREA);
+    STEP_REFUSED(activate(session, staging, AREA, kept, Q - 1, table, ENTRIES), session, LACHSBRILLE_SHORT_AREA);
+    STEP_REFUSED(deactivate(keeping), keeping, LACHSBRILLE_NOT_ACTIVE);
     left(staging, sizeof staging);
     left(kept, sizeof kept);
     left(table, sizeof table);
@@ -339,7 +356,15 @@ static void log_record_not_read(const uint8_t *sound, const uint8_t *bytes, size
     EQUAL(record.length, 0);
     EQUAL(record.count, 0);
     EQUAL(record.fields.time, 0);
+    EQUAL(record.fields.days, 0);
     EQUAL(record.fields.north, 0);
+    EQUAL(record.fields.east, 0);
+    EQUAL(record.fields.up, 0);
+    EQUAL(record.fields.status, 0);
+    EQUAL(record.fields.pdop, 0);
+    EQUAL(record.fields.hdop, 0);
+    EQUAL(record.fields.satellites, 0);
+    EQUAL(record.fields.gps_time, 0);
     EQUAL(record.fields.gps_date, 0);
     left(ordinals, sizeof ordinals);
     left(values, sizeof values);
