@@ -53,3 +53,31 @@ pub fn are_of(object: &Object, pool: &[u8], start: u16) -> bool {
         }
     }
 }
+
+#[cfg(test)]
+mod tests {
+    use super::*;
+    use crate::objects::pool_of;
+    use crate::realistic::realistic;
+    use second::Record;
+
+    /// Mark and ID, which a view leaves out.
+    const HEAD: usize = 5;
+
+    #[test]
+    fn every_byte_of_a_record_is_in_one_of_its_fields() {
+        let objects = realistic(3_000);
+        let pool = pool_of(&objects);
+        let mut table = vec![Record::default(); objects.len()];
+        assert_eq!(second::read_pool(&pool, &mut table), Ok(objects.len()));
+        for (object, record) in objects.iter().zip(table) {
+            assert!(are_of(object, &pool, record.start));
+            let start = usize::from(record.start);
+            for at in start + HEAD..start + usize::from(record.length) {
+                let mut changed = pool.clone();
+                changed[at] ^= 1;
+                assert!(!are_of(object, &changed, record.start), "byte {at}");
+            }
+        }
+    }
+}
