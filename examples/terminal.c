@@ -1,13 +1,16 @@
 /*
- * A terminal that receives the pool of a sprayer, activates it, exchanges process data and writes a log.
+ * A terminal that receives the pool of a sprayer, activates it, looks at its device, exchanges process data, shows a value and
+ * writes a log. No heap is used.
  *
- * Build: cc -std=c99 -Iinclude examples/terminal.c target/staticlib/libterminal.a -o terminal
+ * Build, after ./lachsbrille build --prefix DIR:
+ *     cc -std=c99 -IDIR/include examples/terminal.c DIR/lib/liblachsbrille.a -o terminal
  */
 #include "lachsbrille.h"
 
 #include <inttypes.h>
 #include <stdio.h>
 #include <stdlib.h>
+#include <string.h>
 
 /* All memory that calls are lent. A terminal of its own would take LACHSBRILLE_POOL_MOST bytes and
  * LACHSBRILLE_RECORDS_MOST entries, so that no pool is too long for it. */
@@ -16,6 +19,7 @@ enum { AREA = 512, ENTRIES = 16, FAULTS = 8, LOG = 256, VALUES = 8 };
 static uint8_t staging[AREA];
 static uint8_t kept[AREA];
 static lachsbrille_record table[ENTRIES];
+static size_t records; /* how many of them the active pool has */
 
 /* What the sprayer sends. */
 static const uint8_t sprayer[] = {
@@ -48,44 +52,44 @@ static void expect(const char *call, uint32_t number, uint32_t expected)
 }
 
 /* Sends a part of the pool in pieces as short as a transport frame's. */
-static lachsbrille_client_session transfer(lachsbrille_client_session session, size_t from, size_t to)
+static lachsbrille_session transfer(lachsbrille_session session, size_t from, size_t to)
 {
     enum { PIECE = 7 };
     size_t pieces = 0;
 
     while (from < to) {
         size_t length = to - from < PIECE ? to - from : PIECE;
-        lachsbrille_client_step step =
-            lachsbrille_session_transfer(session, sprayer + from, length, staging, sizeof staging);
+        lachsbrille_step step;
+        lachsbrille_session_transfer(&step, session, sprayer + from, length, staging, sizeof staging);
         expect("transfer", step.number, LACHSBRILLE_OK);
         session = step.session;
         from += length;
         pieces += 1;
     }
-    printf("%zu pieces, %zu of %zu bytes received\n", pieces, session.received, session.announced);
+    printf("%zu pieces, %" PRIu32 " of %" PRIu32 " bytes received\n", pieces, session.received, session.announced);
     return session;
 }
 
 /* Receives the pool and activates it. The session that is returned is active. */
-static lachsbrille_client_session receive(void)
+static lachsbrille_session receive(void)
 {
-    lachsbrille_client_session session = lachsbrille_session_new();
-    lachsbrille_client_step step;
+    lachsbrille_session session = lachsbrille_session_new();
+    lachsbrille_step step;
 
-    step = lachsbrille_session_offer(session, sizeof sprayer, staging, sizeof staging, kept, sizeof kept);
+    lachsbrille_session_offer(&step, session, sizeof sprayer, staging, sizeof staging, kept, sizeof kept);
     expect("offer", step.number, LACHSBRILLE_OK);
-    printf("offered: %zu bytes\n", step.session.announced);
+    printf("offered: %" PRIu32 " bytes\n", step.session.announced);
     session = transfer(step.session, 0, STOPPED_AFTER);
 
     /* Not all has arrived. The offer stands, and the rest may follow. */
-    step = lachsbrille_session_activate(session, staging, sizeof staging, kept, sizeof kept, table, ENTRIES);
+    lachsbrille_session_activate(&step, session, staging, sizeof staging, kept, sizeof kept, table, ENTRIES);
     expect("activate", step.number, LACHSBRILLE_STOPPED_EARLY);
     printf("activating now is refused with %" PRIu32 "\n", step.number);
     session = transfer(step.session, STOPPED_AFTER, sizeof sprayer);
 
-    step = lachsbrille_session_activate(session, staging, sizeof staging, kept, sizeof kept, table, ENTRIES);
+    lachsbrille_session_activate(&step, session, staging, sizeof staging, kept, sizeof kept, table, ENTRIES);
     expect("activate", step.number, LACHSBRILLE_OK);
-    printf("active: %zu bytes are kept\n", step.session.kept);
+    printf("active: %" PRIu32 " bytes are kept\n", step.session.kept);
     return step.session;
 }
 
@@ -96,8 +100,7 @@ static void show_records(size_t pool_length)
     uint16_t faults[LACHSBRILLE_FAULT_WORDS * FAULTS];
     size_t count, record;
 
-    expect("read", lachsbrille_read(kept, pool_length, table, ENTRIES, &count), LACHSBRILLE_OK);
-    for (record = 0; record < count; record++) {
+    for (record = 0; record < records; record++) {
         uint16_t id = table[record].id;
         size_t from, to;
         expect("text", lachsbrille_text(kept, pool_length, table, ENTRIES, id, &from, &to), LACHSBRILLE_OK);
@@ -114,6 +117,118 @@ static void show_records(size_t pool_length)
            (unsigned)faults[0], (unsigned)faults[1], (unsigned)faults[2]);
 }
 
+/* ---- The device: the fields of its records, by the table ---- */
+
+/* The table's entry of an ID, none for LACHSBRILLE_NO_ID. In an accepted pool every other ID that a record names is there. */
+static const lachsbrille_record *find(uint16_t id)
+{
+    size_t record;
+
+    for (record = 0; record < records && id != LACHSBRILLE_NO_ID; record++) {
+        if (table[record].id == id) {
+            return &table[record];
+        }
+    }
+    return NULL;
+}
+
+/* What an entry of an element's list names: a process data or a property. */
+typedef struct {
+    uint16_t ddi;
+    lachsbrille_span designator;
+    uint16_t presentation;
+} data_fields;
+
+static data_fields read_data(size_t pool_length, const lachsbrille_record *record)
+{
+    data_fields fields;
+
+    if (record->kind == LACHSBRILLE_DPD) {
+        lachsbrille_process_data data;
+        lachsbrille_read_process_data(&data, kept, pool_length, record->start);
+        fields.ddi = data.ddi;
+        fields.designator = data.designator;
+        fields.presentation = data.presentation;
+    } else {
+        lachsbrille_property property;
+        lachsbrille_read_property(&property, kept, pool_length, record->start);
+        fields.ddi = property.ddi;
+        fields.designator = property.designator;
+        fields.presentation = property.presentation;
+    }
+    return fields;
+}
+
+/* Prints a part of the pool. Texts of an accepted pool are UTF-8, without a 0 at their end. */
+static void show_text(lachsbrille_span text)
+{
+    printf("\"%.*s\"", (int)(text.to - text.from), (const char *)kept + text.from);
+}
+
+/* The unit text of the presentation that is named, if one is. */
+static void show_unit(size_t pool_length, uint16_t presentation)
+{
+    const lachsbrille_record *record = find(presentation);
+    lachsbrille_presentation shown;
+
+    if (record == NULL) {
+        printf(", shown as it is");
+    } else {
+        lachsbrille_read_presentation(&shown, kept, pool_length, record->start);
+        printf(", shown in ");
+        show_text(shown.unit);
+    }
+}
+
+/* Walks the device: its elements, and what their lists name. */
+static void show_elements(size_t pool_length)
+{
+    size_t record;
+    uint16_t n;
+
+    for (record = 0; record < records; record++) {
+        lachsbrille_element element;
+        if (table[record].kind != LACHSBRILLE_DET) {
+            continue;
+        }
+        lachsbrille_read_element(&element, kept, pool_length, table[record].start);
+        printf("element %u ", (unsigned)element.number);
+        show_text(element.designator);
+        printf(" of type %u, entries: %u\n", (unsigned)element.type, (unsigned)element.entries);
+        for (n = 0; n < element.entries; n++) {
+            uint16_t id = lachsbrille_read_entry(kept, pool_length, table[record].start, n);
+            data_fields data = read_data(pool_length, find(id));
+            printf("    DDI %u ", (unsigned)data.ddi);
+            show_text(data.designator);
+            show_unit(pool_length, data.presentation);
+            printf("\n");
+        }
+    }
+}
+
+/* Shows a value as the pool says: by the presentation that the process data or property with this ID names. */
+static void show_value(size_t pool_length, uint16_t id, int32_t value)
+{
+    data_fields data = read_data(pool_length, find(id));
+    const lachsbrille_record *named = find(data.presentation);
+
+    show_text(data.designator);
+    if (named == NULL) {
+        printf(" of %" PRId32 " is shown as it is\n", value);
+    } else {
+        lachsbrille_presentation by;
+        float scale;
+        double shown;
+
+        lachsbrille_read_presentation(&by, kept, pool_length, named->start);
+        memcpy(&scale, &by.scale, sizeof scale);
+        expect("displayed value", lachsbrille_displayed(value, by.offset, scale, by.decimals, &shown), LACHSBRILLE_OK);
+        printf(" of %" PRId32 " is shown as %.*f ", value, (int)by.decimals, shown);
+        show_text(by.unit);
+        printf("\n");
+    }
+}
+
 static void show_label(const char *name, const uint8_t *label, size_t length)
 {
     size_t at;
@@ -127,8 +242,9 @@ static void show_label(const char *name, const uint8_t *label, size_t length)
 
 static void show_labels(size_t pool_length)
 {
-    lachsbrille_device_labels labels = lachsbrille_labels(kept, pool_length, table, ENTRIES);
+    lachsbrille_device_labels labels;
 
+    lachsbrille_labels(&labels, kept, pool_length, table, ENTRIES);
     expect("labels", labels.number, LACHSBRILLE_OK);
     show_label("structure", labels.structure, sizeof labels.structure);
     show_label("localization", labels.localization, sizeof labels.localization);
@@ -168,16 +284,6 @@ static void send_command(size_t pool_length, uint8_t command, uint16_t element, 
     show_message(bytes);
 }
 
-/* Shows a rate as presentation 5 says it. */
-static void show_rate(int32_t rate)
-{
-    enum { DECIMALS = 1 };
-    double shown;
-
-    expect("displayed value", lachsbrille_displayed(rate, 0, 0.0001f, DECIMALS, &shown), LACHSBRILLE_OK);
-    printf("a rate of %" PRId32 " is shown as %.*f l/ha\n", rate, DECIMALS, shown);
-}
-
 /* Writes two log records of the rate and reads them back, by themselves and as a log. */
 static void keep_log(void)
 {
@@ -195,20 +301,20 @@ static void keep_log(void)
     printf("the log's layout marks %" PRIu32 " fields\n", marks.count);
     for (rate = 1980000; rate <= 2000000; rate += 20000) {
         lachsbrille_log_written written = lachsbrille_log_write_record(
-            log + length, sizeof log - length, LAYOUT, fields, LOGGED, ordinals, 1, &rate, 1, 1);
+            log + length, sizeof log - length, LAYOUT, &fields, LOGGED, ordinals, 1, &rate, 1, 1);
         expect("log record written", written.number, LACHSBRILLE_OK);
         length += written.length;
         fields.time += 1000;
     }
 
-    outcome = lachsbrille_log_read(log, length, LAYOUT, LOGGED);
+    lachsbrille_log_read(&outcome, log, length, LAYOUT, LOGGED);
     expect("log read", outcome.number, LACHSBRILLE_OK);
     printf("the log has %zu records in %zu bytes\n", outcome.count, length);
     while (at < length) {
         uint8_t found[VALUES];
         int32_t values[VALUES];
-        lachsbrille_log_record record =
-            lachsbrille_log_read_record(log + at, length - at, LAYOUT, LOGGED, found, VALUES, values, VALUES);
+        lachsbrille_log_record record;
+        lachsbrille_log_read_record(&record, log + at, length - at, LAYOUT, LOGGED, found, VALUES, values, VALUES);
         expect("log record read", record.number, LACHSBRILLE_OK);
         printf("at %zu: time %" PRIu32 ", north %" PRId32 ", east %" PRId32 ", status %u, value %u is %" PRId32 "\n",
                at, record.fields.time, record.fields.north, record.fields.east, (unsigned)record.fields.status,
@@ -216,36 +322,43 @@ static void keep_log(void)
         at += record.length;
     }
 
-    outcome = lachsbrille_log_read(log, length - 1, LAYOUT, LOGGED);
+    lachsbrille_log_read(&outcome, log, length - 1, LAYOUT, LOGGED);
     expect("cut log", outcome.number, LACHSBRILLE_CUT_LOG_RECORD);
     printf("without its last byte it is refused with %" PRIu32 " at %zu\n", outcome.number, outcome.start);
 }
 
 int main(void)
 {
-    lachsbrille_client_session session = receive();
-    lachsbrille_client_step step;
+    lachsbrille_session session;
+    lachsbrille_step step;
 
+    expect("version", lachsbrille_version(), LACHSBRILLE_VERSION);
+    session = receive();
+    expect("read", lachsbrille_read(kept, session.kept, table, ENTRIES, &records), LACHSBRILLE_OK);
     show_records(session.kept);
     show_labels(session.kept);
+
+    /* The table holds what the last call with it read: here all records again. */
+    show_elements(session.kept);
+    show_value(session.kept, 3, 2000000);
     send_command(session.kept, LACHSBRILLE_VALUE, 1, 1, 2000000);
     send_command(session.kept, LACHSBRILLE_TIME_INTERVAL, 1, 1, 1000);
     send_command(session.kept, LACHSBRILLE_VALUE, 1, 134, 0);
     send_command(session.kept, LACHSBRILLE_DISTANCE_INTERVAL, 1, 1, 1000);
     send_command(session.kept, LACHSBRILLE_VALUE, 2, 1, 2000000);
-    show_rate(2000000);
     keep_log();
 
-    /* The connection is lost and comes back: the kept pool is activated without being sent again. */
-    step = lachsbrille_session_lost(session);
+    /* The connection is lost and comes back: the kept pool is activated without being sent again. Of staging and the table
+     * nothing is needed for that. */
+    lachsbrille_session_lost(&step, session);
     expect("lost", step.number, LACHSBRILLE_OK);
-    step = lachsbrille_session_activate(step.session, staging, sizeof staging, kept, sizeof kept, table, ENTRIES);
+    lachsbrille_session_activate(&step, step.session, LACHSBRILLE_NOTHING, 0, kept, sizeof kept, LACHSBRILLE_NOTHING, 0);
     expect("activate", step.number, LACHSBRILLE_OK);
     printf("active again without a transfer\n");
-    step = lachsbrille_session_deactivate(step.session);
+    lachsbrille_session_deactivate(&step, step.session);
     expect("deactivate", step.number, LACHSBRILLE_OK);
-    step = lachsbrille_session_delete(step.session);
+    lachsbrille_session_delete(&step, step.session);
     expect("delete", step.number, LACHSBRILLE_OK);
-    printf("deleted: %zu bytes are kept\n", step.session.kept);
+    printf("deleted: %" PRIu32 " bytes are kept\n", step.session.kept);
     return EXIT_SUCCESS;
 }

@@ -1,13 +1,14 @@
 //! Why a call is refused.
 
-use std::error::Error;
-use std::fmt;
+use core::error::Error;
+use core::fmt;
 
 macro_rules! causes {
     ($($(#[$said:meta])* $name:ident = $number:literal, $text:literal;)*) => {
         /// Why a call is refused, by document 01's numbers.
         #[derive(Clone, Copy, Debug, PartialEq, Eq, Hash)]
         #[repr(u32)]
+        #[non_exhaustive]
         pub enum Cause {
             $(#[doc = $text] $(#[$said])* $name = $number,)*
         }
@@ -49,7 +50,7 @@ causes! {
     Faulty = 24, "the pool has a fault";
     NotActive = 25, "nothing is active";
     ShortArea = 26, "an area is too short";
-    ImpossibleSession = 27, "calls do not lead to this session value";
+    ImpossibleSession = 27, "no calls lead to this session value";
     NoSuchId = 28, "no record has this ID";
     NotEightBytes = 30, "the message has not eight bytes";
     BadCommand = 31, "the command is none that is read or written here";
@@ -94,6 +95,8 @@ impl Error for Cause {}
 #[cfg(test)]
 mod tests {
     use super::*;
+    use std::string::ToString;
+    use std::vec::Vec;
 
     #[test]
     fn numbers_and_causes_agree() {

@@ -3,8 +3,19 @@
 use crate::c::{self, Record};
 use crate::Cause;
 
-/// The command of an acknowledge.
-const ACKNOWLEDGE: u8 = 13;
+/// The commands of messages, by the standard's names. All but the acknowledge
+/// carry a value.
+pub mod commands {
+    pub const REQUEST_VALUE: u8 = 2;
+    pub const VALUE: u8 = 3;
+    pub const TIME_INTERVAL: u8 = 4;
+    pub const DISTANCE_INTERVAL: u8 = 5;
+    pub const MINIMUM_WITHIN_THRESHOLD: u8 = 6;
+    pub const MAXIMUM_WITHIN_THRESHOLD: u8 = 7;
+    pub const CHANGE_THRESHOLD: u8 = 8;
+    pub const SET_AND_ACKNOWLEDGE: u8 = 10;
+    pub const ACKNOWLEDGE: u8 = 13;
+}
 
 /// The error bits of a judgement and of an acknowledge.
 pub mod errors {
@@ -25,7 +36,7 @@ pub mod errors {
 /// A process data message.
 #[derive(Clone, Copy, Debug, PartialEq, Eq)]
 pub enum Message {
-    /// Commands 2 to 8 and 10.
+    /// Those of [`commands`] that carry a value: 2 to 8 and 10.
     Value {
         command: u8,
         element: u16,
@@ -37,7 +48,7 @@ pub enum Message {
         ddi: u16,
         /// Those of [`errors`], any of them together.
         errors: u8,
-        /// The command that is acknowledged.
+        /// The command that is acknowledged, 0 to 15.
         answered: u8,
     },
 }
@@ -49,7 +60,7 @@ impl Message {
         Cause::check(fields.number)?;
         let (element, ddi) = (fields.element, fields.ddi);
         Ok(match fields.command {
-            ACKNOWLEDGE => Message::Acknowledge {
+            commands::ACKNOWLEDGE => Message::Acknowledge {
                 element,
                 ddi,
                 errors: fields.errors,
@@ -72,13 +83,13 @@ impl Message {
                 element,
                 ddi,
                 value,
-            } => c::message_write_value(to, command, element, ddi, value),
+            } => c::message_write_value(to, command.into(), element.into(), ddi, value),
             Message::Acknowledge {
                 element,
                 ddi,
                 errors,
                 answered,
-            } => c::message_write_acknowledge(to, element, ddi, errors, answered),
+            } => c::message_write_acknowledge(to, element.into(), ddi, errors, answered.into()),
         })
     }
 }
@@ -95,6 +106,7 @@ pub fn judge(
     value: i32,
 ) -> Result<u8, Cause> {
     let mut error = 0;
+    let (command, element) = (command.into(), element.into());
     let number = c::judge(pool, table, command, element, ddi, value, &mut error);
     Cause::check(number).map(|()| error)
 }
@@ -115,7 +127,7 @@ pub fn displayed(value: i32, presentation: Presentation) -> Result<f64, Cause> {
         decimals,
     } = presentation;
     let mut result = 0.0;
-    let number = c::displayed(value, offset, scale, decimals, &mut result);
+    let number = c::displayed(value, offset, scale, decimals.into(), &mut result);
     Cause::check(number).map(|()| result)
 }
 

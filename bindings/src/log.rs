@@ -2,8 +2,8 @@
 
 use crate::c::{self, LogFields};
 use crate::Cause;
-use std::error::Error;
-use std::fmt;
+use core::error::Error;
+use core::fmt;
 
 /// The optional fields that a layout marks.
 pub mod layout {
@@ -32,14 +32,19 @@ pub struct LogRecord {
 
 /// A log that is not read: why, and where its record starts.
 #[derive(Clone, Copy, Debug, PartialEq, Eq)]
+#[non_exhaustive]
 pub struct LogRefusal {
     pub cause: Cause,
-    pub start: usize,
+    /// None where the layout is bad: then no record was looked at.
+    pub start: Option<usize>,
 }
 
 impl fmt::Display for LogRefusal {
     fn fmt(&self, f: &mut fmt::Formatter) -> fmt::Result {
-        write!(f, "{}, in the record at {}", self.cause, self.start)
+        match self.start {
+            Some(start) => write!(f, "{}, in the record at {start}", self.cause),
+            None => write!(f, "{}", self.cause),
+        }
     }
 }
 
@@ -47,7 +52,7 @@ impl Error for LogRefusal {}
 
 /// How many optional fields a layout marks.
 pub fn optional_fields(layout: u16) -> Result<u32, Cause> {
-    let marks = c::log_optional_fields(layout);
+    let marks = c::log_optional_fields(layout.into());
     Cause::check(marks.number).map(|()| marks.count)
 }
 
@@ -60,7 +65,8 @@ pub fn read_record(
     ordinals: &mut [u8],
     values: &mut [i32],
 ) -> Result<LogRecord, Cause> {
-    let record = c::log_read_record(bytes, layout, logged, ordinals, values);
+    let mut record = c::LogRecord::default();
+    c::log_read_record(&mut record, bytes, layout.into(), logged, ordinals, values);
     Cause::check(record.number).map(|()| LogRecord {
         length: record.length,
         count: record.count,
@@ -74,24 +80,25 @@ pub fn read_record(
 pub fn write_record(
     to: &mut [u8],
     layout: u16,
-    fields: LogFields,
+    fields: &LogFields,
     logged: usize,
     ordinals: &[u8],
     values: &[i32],
     count: usize,
 ) -> Result<usize, Cause> {
-    let written = c::log_write_record(to, layout, fields, logged, ordinals, values, count);
+    let written = c::log_write_record(to, layout.into(), fields, logged, ordinals, values, count);
     Cause::check(written.number).map(|()| written.length)
 }
 
 /// Reads a log to its end and gives the count of its records.
 pub fn read(bytes: &[u8], layout: u16, logged: usize) -> Result<usize, LogRefusal> {
-    let log = c::log_read(bytes, layout, logged);
+    let mut log = c::LogOutcome::default();
+    c::log_read(&mut log, bytes, layout.into(), logged);
     match Cause::check(log.number) {
         Ok(()) => Ok(log.count),
         Err(cause) => Err(LogRefusal {
             cause,
-            start: log.start,
+            start: (cause != Cause::BadLayout).then_some(log.start),
         }),
     }
 }
@@ -99,6 +106,7 @@ pub fn read(bytes: &[u8], layout: u16, logged: usize) -> Result<usize, LogRefusa
 #[cfg(test)]
 mod tests {
     use super::*;
+    use std::string::ToString;
 
     const LOGGED: usize = 3;
     /// Six bytes of time and date, the optional fields, the count byte and two
@@ -128,7 +136,7 @@ mod tests {
         let length = write_record(
             &mut bytes,
             layout::ALL,
-            fields(),
+            &fields(),
             LOGGED,
             &ordinals,
             &values,
@@ -161,7 +169,7 @@ mod tests {
             cut,
             Err(LogRefusal {
                 cause: Cause::CutLogRecord,
-                start: LENGTH
+                start: Some(LENGTH)
             })
         );
     }
@@ -173,7 +181,7 @@ mod tests {
             status: 9,
             ..fields()
         };
-        let write = |bytes: &mut [u8], layout| write_record(bytes, layout, bad, 0, &[], &[], 0);
+        let write = |bytes: &mut [u8], layout| write_record(bytes, layout, &bad, 0, &[], &[], 0);
         assert_eq!(write(&mut bytes, layout::STATUS), Err(Cause::BadStatus));
         assert_eq!(write(&mut bytes, 0), Ok(7));
         assert_eq!(write(&mut bytes[..6], 0), Err(Cause::NoRoomForLogRecord));
@@ -194,5 +202,8 @@ mod tests {
         assert_eq!(optional_fields(layout::NORTH | layout::STATUS), Ok(2));
         assert_eq!(optional_fields(0x200), Err(Cause::BadLayout));
         assert_eq!(read(&[], layout::ALL, 0), Ok(0));
+        let refusal = read(&[], 0x200, 0).unwrap_err();
+        assert_eq!((refusal.cause, refusal.start), (Cause::BadLayout, None));
+        assert_eq!(refusal.to_string(), "47: the layout has a bit above 8");
     }
 }

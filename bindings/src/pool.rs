@@ -3,9 +3,9 @@
 use crate::c;
 use crate::c::Record;
 use crate::Cause;
-use std::error::Error;
-use std::fmt;
-use std::slice;
+use core::error::Error;
+use core::fmt;
+use core::slice;
 
 /// The five kinds of records.
 #[derive(Clone, Copy, Debug, PartialEq, Eq, Hash)]
@@ -41,6 +41,7 @@ impl Record {
 /// pool.
 #[repr(C)]
 #[derive(Clone, Copy, Debug, Default, PartialEq, Eq, Hash)]
+#[non_exhaustive]
 pub struct Fault {
     pub record: u16,
     pub rule: u16,
@@ -58,13 +59,21 @@ impl Fault {
     }
 }
 
+impl fmt::Display for Fault {
+    fn fmt(&self, f: &mut fmt::Formatter) -> fmt::Result {
+        let Fault { record, rule, item } = self;
+        write!(f, "record {record}, rule {rule}, item {item}")
+    }
+}
+
 /// A pool that is not read: why, and where.
 #[derive(Clone, Copy, Debug, PartialEq, Eq)]
+#[non_exhaustive]
 pub struct Refusal {
     pub cause: Cause,
     /// Where the bad record or length byte is, or how many entries the table
-    /// needs ([`Cause::ShortTable`]); 0 where there is no place.
-    pub place: usize,
+    /// needs ([`Cause::ShortTable`]); none for another cause.
+    pub place: Option<usize>,
 }
 
 impl Refusal {
@@ -73,7 +82,7 @@ impl Refusal {
             Ok(()) => Ok(value),
             Err(cause) => Err(Refusal {
                 cause,
-                place: value,
+                place: place_of(cause, value),
             }),
         }
     }
@@ -81,11 +90,32 @@ impl Refusal {
 
 impl fmt::Display for Refusal {
     fn fmt(&self, f: &mut fmt::Formatter) -> fmt::Result {
-        write!(f, "{}, at {}", self.cause, self.place)
+        write_refusal(f, self.cause, self.place)
     }
 }
 
 impl Error for Refusal {}
+
+/// The place of a refusal, where its cause has one.
+pub(crate) fn place_of(cause: Cause, value: usize) -> Option<usize> {
+    let has_place = matches!(
+        cause,
+        Cause::NoMark | Cause::CutRecord | Cause::LongText | Cause::ShortTable
+    );
+    has_place.then_some(value)
+}
+
+pub(crate) fn write_refusal(
+    f: &mut fmt::Formatter,
+    cause: Cause,
+    place: Option<usize>,
+) -> fmt::Result {
+    match place {
+        None => write!(f, "{cause}"),
+        Some(needed) if cause == Cause::ShortTable => write!(f, "{cause}, which are {needed}"),
+        Some(place) => write!(f, "{cause}, at {place}"),
+    }
+}
 
 /// The labels of a device.
 #[derive(Clone, Copy, Debug, PartialEq, Eq)]
@@ -130,14 +160,15 @@ pub fn text_is_sound(text: &[u8]) -> bool {
 /// read.
 pub fn text<'pool>(pool: &'pool [u8], table: &mut [Record], id: u16) -> Result<&'pool [u8], Cause> {
     let (mut from, mut to) = (0, 0);
-    let number = c::text(pool, table, id, &mut from, &mut to);
+    let number = c::text(pool, table, id.into(), &mut from, &mut to);
     Cause::check(number).map(|()| &pool[from..to])
 }
 
 /// The labels of the device. The pool must be accepted; the table is filled
 /// whenever it is read.
 pub fn labels(pool: &[u8], table: &mut [Record]) -> Result<Labels, Cause> {
-    let labels = c::labels(pool, table);
+    let mut labels = c::DeviceLabels::default();
+    c::labels(&mut labels, pool, table);
     Cause::check(labels.number).map(|()| Labels {
         structure: labels.structure,
         localization: labels.localization,
@@ -150,6 +181,7 @@ pub fn labels(pool: &[u8], table: &mut [Record]) -> Result<Labels, Cause> {
 mod tests {
     use super::*;
     use crate::pools::{p, q};
+    use std::string::ToString;
 
     const UNTOUCHED: Record = Record {
         start: 9_001,
@@ -185,12 +217,20 @@ mod tests {
         let mut table = [UNTOUCHED; 4];
         let mut refusal = |pool: &[u8], entries| {
             let refusal = read(pool, &mut table[..entries]).unwrap_err();
-            (refusal.cause, refusal.place)
+            (refusal.cause, refusal.place, refusal.to_string())
         };
-        assert_eq!(refusal(&[], 4), (Cause::EmptyPool, 0));
-        assert_eq!(refusal(&q()[..70], 4), (Cause::CutRecord, 59));
-        assert_eq!(refusal(&q(), 3), (Cause::ShortTable, 4));
-        assert_eq!(refusal(&q(), 0), (Cause::ShortTable, 4));
+        let mut is = |pool: &[u8], entries, cause, place, said: &str| {
+            let expected = (cause, place, said.to_string());
+            assert_eq!(refusal(pool, entries), expected);
+        };
+        is(&[], 4, Cause::EmptyPool, None, "1: the pool has no byte");
+        let cut = "4: the pool ends inside this record, at 59";
+        is(&q()[..70], 4, Cause::CutRecord, Some(59), cut);
+        let cut = "4: the pool ends inside this record, at 0";
+        is(b"DVC", 4, Cause::CutRecord, Some(0), cut);
+        let short = "7: the working table has fewer entries than the pool has records, which are 4";
+        is(&q(), 3, Cause::ShortTable, Some(4), short);
+        is(&q(), 0, Cause::ShortTable, Some(4), short);
         assert_eq!(table, [UNTOUCHED; 4]);
     }
 

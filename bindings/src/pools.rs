@@ -1,8 +1,11 @@
-//! Pools of the tests: the worked ones, and one with a name and labels.
+//! Pools of the tests: the worked ones, and two whose fields all differ.
+
+use std::vec::Vec;
 
 /// A device and a device element.
 pub fn p() -> Vec<u8> {
-    let mut pool = device(b"", [1; 7], [0x65, 0x6E, 0, 0, 0, 0, 0xFF], b"");
+    let localization = [0x65, 0x6E, 0, 0, 0, 0, 0xFF];
+    let mut pool = device(b"", b"", [0; 8], b"", [1; 7], localization, b"");
     pool.extend(b"DET\x01\x00\x01\x00\x00\x00\x00\x00\x00\x00");
     pool
 }
@@ -16,28 +19,56 @@ pub fn q() -> Vec<u8> {
     pool
 }
 
-/// P with a designator and labels whose bytes all differ.
+/// P with texts and labels whose bytes all differ.
 pub fn named() -> Vec<u8> {
+    let name = [0x11, 0x22, 0x33, 0x44, 0x55, 0x66, 0x77, 0x88];
+    let structure = [1, 2, 3, 4, 5, 6, 7];
     let localization = [0x65, 0x6E, 1, 2, 3, 4, 0xFF];
-    let mut pool = device(b"Spritze", [1, 2, 3, 4, 5, 6, 7], localization, &[8, 9, 10]);
+    let extended = [8, 9, 10];
+    let mut pool = device(
+        b"Spritze",
+        b"v2",
+        name,
+        b"123",
+        structure,
+        localization,
+        &extended,
+    );
     pool.extend(&p()[31..]);
+    pool
+}
+
+/// P's device and a record of each other kind: an element with two entries, a
+/// process data with the presentation, and a property without one.
+pub fn walked() -> Vec<u8> {
+    let mut pool = p()[..31].to_vec();
+    pool.extend(b"DET\x01\x02\x01\x04Boom\x02\x01\x00\x00\x02\x00\x03\x02\x04\x03");
+    pool.extend(b"DPD\x03\x02\x05\x04\x02\x11\x04Rate\x06\x05");
+    pool.extend(b"DPT\x04\x03\x07\x06\x18\xFC\xFF\xFF\x05Width\xFF\xFF");
+    pool.extend(b"DVP\x06\x05\xEC\xFF\xFF\xFF\x00\x00\x00\x3F\x02\x04l/ha");
     pool
 }
 
 fn device(
     designator: &[u8],
+    version: &[u8],
+    name: [u8; 8],
+    serial: &[u8],
     structure: [u8; 7],
     localization: [u8; 7],
     extended: &[u8],
 ) -> Vec<u8> {
     let mut record = b"DVC\x00\x00".to_vec();
-    record.push(designator.len() as u8);
-    record.extend(designator);
-    // No software version, NAME of zeros, no serial number.
-    record.extend([0; 10]);
+    let counted = |record: &mut Vec<u8>, part: &[u8]| {
+        record.push(part.len() as u8);
+        record.extend(part);
+    };
+    counted(&mut record, designator);
+    counted(&mut record, version);
+    record.extend(name);
+    counted(&mut record, serial);
     record.extend(structure);
     record.extend(localization);
-    record.push(extended.len() as u8);
-    record.extend(extended);
+    counted(&mut record, extended);
     record
 }

@@ -1,16 +1,18 @@
 //! One client's session.
 
-use crate::c::{self, ClientSession, ClientStep, Record};
+use crate::c::{self, Record, Step};
+use crate::pool::{place_of, write_refusal};
 use crate::{Cause, Fault};
-use std::error::Error;
-use std::fmt;
+use core::error::Error;
+use core::fmt;
 
 /// A session call that is refused.
 #[derive(Clone, Copy, Debug, PartialEq, Eq)]
+#[non_exhaustive]
 pub struct SessionRefusal {
     pub cause: Cause,
-    /// As for a pool that is not read; 0 where there is no place.
-    pub place: usize,
+    /// As for a pool that is not read.
+    pub place: Option<usize>,
     /// The pool's first fault, after [`Cause::Faulty`].
     pub fault: Option<Fault>,
 }
@@ -18,10 +20,8 @@ pub struct SessionRefusal {
 impl fmt::Display for SessionRefusal {
     fn fmt(&self, f: &mut fmt::Formatter) -> fmt::Result {
         match self.fault {
-            Some(Fault { record, rule, item }) => {
-                write!(f, "{}: {record} {rule} {item}", self.cause)
-            }
-            None => write!(f, "{}, at {}", self.cause, self.place),
+            Some(fault) => write!(f, "{}: {fault}", self.cause),
+            None => write_refusal(f, self.cause, self.place),
         }
     }
 }
@@ -35,7 +35,7 @@ impl Error for SessionRefusal {}
 /// leave them unaltered between calls.
 #[derive(Debug, PartialEq, Eq)]
 pub struct Session {
-    value: ClientSession,
+    value: c::Session,
 }
 
 impl Session {
@@ -47,12 +47,12 @@ impl Session {
     }
 
     /// A session from its value, such as one that was stored. A value that
-    /// calls do not lead to is refused by each call.
-    pub fn from_value(value: ClientSession) -> Self {
+    /// no calls lead to is refused by each call.
+    pub fn from_value(value: c::Session) -> Self {
         Session { value }
     }
 
-    pub fn value(&self) -> ClientSession {
+    pub fn value(&self) -> c::Session {
         self.value
     }
 
@@ -66,17 +66,17 @@ impl Session {
 
     /// Bytes of the pool that is offered.
     pub fn announced(&self) -> usize {
-        self.value.announced
+        self.value.announced as usize
     }
 
     /// Bytes that have arrived of it.
     pub fn received(&self) -> usize {
-        self.value.received
+        self.value.received as usize
     }
 
     /// Bytes of the pool that the kept area starts with.
     pub fn kept(&self) -> usize {
-        self.value.kept
+        self.value.kept as usize
     }
 
     /// Announces the size of a pool; an offer before it is forgotten. Of the
@@ -87,12 +87,12 @@ impl Session {
         staging: &[u8],
         kept: &[u8],
     ) -> Result<(), SessionRefusal> {
-        self.take(c::session_offer(self.value, size, staging, kept))
+        self.take(|step, value| c::session_offer(step, value, size, staging, kept))
     }
 
     /// Takes a piece into staging, behind what has arrived.
     pub fn transfer(&mut self, piece: &[u8], staging: &mut [u8]) -> Result<(), SessionRefusal> {
-        self.take(c::session_transfer(self.value, piece, staging))
+        self.take(|step, value| c::session_transfer(step, value, piece, staging))
     }
 
     /// Activates the pool that is offered, or else the one that is kept. An
@@ -106,29 +106,32 @@ impl Session {
         kept: &mut [u8],
         table: &mut [Record],
     ) -> Result<(), SessionRefusal> {
-        self.take(c::session_activate(self.value, staging, kept, table))
+        self.take(|step, value| c::session_activate(step, value, staging, kept, table))
     }
 
+    /// Ends being active; the pool stays kept.
     pub fn deactivate(&mut self) -> Result<(), SessionRefusal> {
-        self.take(c::session_deactivate(self.value))
+        self.take(c::session_deactivate)
     }
 
     /// Forgets the pool that is kept, and an offer.
     pub fn delete(&mut self) -> Result<(), SessionRefusal> {
-        self.take(c::session_delete(self.value))
+        self.take(c::session_delete)
     }
 
     /// The connection is lost: an offer is forgotten, a kept pool stays.
     pub fn lost(&mut self) -> Result<(), SessionRefusal> {
-        self.take(c::session_lost(self.value))
+        self.take(c::session_lost)
     }
 
     /// The value after a call is the call's, also where it is refused.
-    fn take(&mut self, step: ClientStep) -> Result<(), SessionRefusal> {
+    fn take(&mut self, call: impl FnOnce(&mut Step, c::Session)) -> Result<(), SessionRefusal> {
+        let mut step = Step::default();
+        call(&mut step, self.value);
         self.value = step.session;
         Cause::check(step.number).map_err(|cause| SessionRefusal {
             cause,
-            place: step.place,
+            place: place_of(cause, step.place),
             fault: (cause == Cause::Faulty).then_some(Fault {
                 record: step.record,
                 rule: step.rule,
@@ -148,6 +151,7 @@ impl Default for Session {
 mod tests {
     use super::*;
     use crate::pools::q;
+    use std::string::ToString;
 
     const AREA: usize = 80;
 
@@ -201,9 +205,13 @@ mod tests {
             refusal,
             Err(SessionRefusal {
                 cause: Cause::Faulty,
-                place: 0,
+                place: None,
                 fault: Some(fault)
             })
+        );
+        assert_eq!(
+            refusal.unwrap_err().to_string(),
+            "24: the pool has a fault: record 3, rule 6, item 2"
         );
         assert_eq!(kept, [7; AREA]);
         assert!(!session.is_offered());
@@ -219,7 +227,7 @@ mod tests {
         let refusal = session
             .activate(&staging, &mut kept, &mut table[..2])
             .unwrap_err();
-        assert_eq!((refusal.cause, refusal.place), (Cause::ShortTable, 4));
+        assert_eq!((refusal.cause, refusal.place), (Cause::ShortTable, Some(4)));
         session.activate(&staging, &mut kept, &mut table).unwrap();
     }
 
@@ -227,14 +235,16 @@ mod tests {
     fn a_value_that_cannot_arise_is_refused_and_stays() {
         let values = [
             (2, 0, 0, 0, 0),
+            (257, 0, 0, 0, 0),
             (0, 2, 0, 0, 1),
+            (0, 256, 0, 0, 1),
             (0, 1, 0, 0, 0),
             (1, 0, 3, 4, 0),
             (0, 0, 1, 0, 0),
             (0, 0, 0, 0, 65_536),
         ];
         for (stage, active, announced, received, kept) in values {
-            let value = ClientSession {
+            let value = c::Session {
                 stage,
                 active,
                 announced,
@@ -251,8 +261,12 @@ mod tests {
     fn offers_and_pieces_are_refused_by_their_size() {
         let mut staging = [0; 10];
         let mut session = Session::new();
-        let none = cause(session.transfer(b"D", &mut staging));
-        assert_eq!(none, Some(Cause::NothingOffered));
+        let none = session.transfer(b"D", &mut staging).unwrap_err();
+        assert_eq!((none.cause, none.place), (Cause::NothingOffered, None));
+        assert_eq!(
+            none.to_string(),
+            "21: nothing is offered, and nothing kept that could be activated"
+        );
         assert_eq!(
             cause(session.offer(0, &staging, &[0; 10])),
             Some(Cause::BadSize)

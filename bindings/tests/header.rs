@@ -1,18 +1,24 @@
 //! The header, the Rattle sources and the declarations of the bindings have
 //! the same functions, structs and numbers, name by name and type by type.
 
-use lachsbrille::{errors, log::layout, Cause};
+use lachsbrille::{commands, errors, log::layout, version, Cause, NO_ID};
 use std::collections::BTreeMap;
 use std::fs;
 use std::path::{Path, PathBuf};
 
 /// Structs that cross the boundary: the crate and the name they have in
 /// Rattle, and their name in Rust. C's is Rust's in C's spelling.
-const STRUCTS: [(&str, &str, &str); 10] = [
+const STRUCTS: [(&str, &str, &str); 16] = [
     ("working_table", "Record", "Record"),
     ("device", "DeviceLabels", "DeviceLabels"),
-    ("client", "ClientSession", "ClientSession"),
-    ("client", "ClientStep", "ClientStep"),
+    ("records", "Span", "Span"),
+    ("records", "Device", "Device"),
+    ("records", "DeviceElement", "Element"),
+    ("records", "ProcessData", "ProcessData"),
+    ("records", "Property", "Property"),
+    ("records", "ValuePresentation", "Presentation"),
+    ("session", "Session", "Session"),
+    ("answers", "StepFields", "Step"),
     ("answers", "MessageFields", "MessageFields"),
     ("time_log", "Fields", "LogFields"),
     ("time_log", "Marks", "LogMarks"),
@@ -21,13 +27,24 @@ const STRUCTS: [(&str, &str, &str); 10] = [
     ("log_reading", "Log", "LogOutcome"),
 ];
 
-/// Parameters that have a short name in Rattle.
-const NAMES: [(&str, &str); 3] = [("p", "pool"), ("v", "session"), ("s", "text")];
+/// Parameters that have a short name in Rattle: it, the type and C's name.
+const NAMES: [(&str, &str, &str); 3] = [
+    ("p", "&[u8]", "pool"),
+    ("s", "Session", "session"),
+    ("s", "&[u8]", "text"),
+];
 
-const SCALARS: [(&str, &str); 8] = [
+/// A field whose name in C is a word of Rattle and Rust.
+const FIELDS: [(&str, &str); 1] = [("element_type", "type")];
+
+/// A result of more bytes goes through a pointer.
+const LARGEST_BY_VALUE: usize = 16;
+
+const SCALARS: [(&str, &str); 9] = [
     ("u8", "uint8_t"),
     ("u16", "uint16_t"),
     ("u32", "uint32_t"),
+    ("u64", "uint64_t"),
     ("i32", "int32_t"),
     ("usize", "size_t"),
     ("f32", "float"),
@@ -87,6 +104,43 @@ fn refusals_are_the_same() {
     });
     let ok = ("LACHSBRILLE_OK".to_owned(), 0);
     assert_eq!(refusals, [ok].into_iter().chain(causes).collect());
+}
+
+#[test]
+fn versions_are_the_same() {
+    let number = macro_number("LACHSBRILLE_VERSION");
+    assert_eq!(version(), number);
+    let (major, minor, patch) = (number / 10_000, number / 100 % 100, number % 100);
+    let package = format!("{major}.{minor}.{patch}");
+    assert_eq!(env!("CARGO_PKG_VERSION"), package);
+}
+
+#[test]
+fn the_id_of_no_record_is_the_same() {
+    assert_eq!(u32::from(NO_ID), macro_number("LACHSBRILLE_NO_ID"));
+}
+
+#[test]
+fn commands_are_the_same() {
+    let numbers = [
+        ("REQUEST_VALUE", commands::REQUEST_VALUE),
+        ("VALUE", commands::VALUE),
+        ("TIME_INTERVAL", commands::TIME_INTERVAL),
+        ("DISTANCE_INTERVAL", commands::DISTANCE_INTERVAL),
+        (
+            "MINIMUM_WITHIN_THRESHOLD",
+            commands::MINIMUM_WITHIN_THRESHOLD,
+        ),
+        (
+            "MAXIMUM_WITHIN_THRESHOLD",
+            commands::MAXIMUM_WITHIN_THRESHOLD,
+        ),
+        ("CHANGE_THRESHOLD", commands::CHANGE_THRESHOLD),
+        ("SET_AND_ACKNOWLEDGE", commands::SET_AND_ACKNOWLEDGE),
+        ("ACKNOWLEDGE", commands::ACKNOWLEDGE),
+    ];
+    let numbers = numbers.map(|(name, number)| (format!("LACHSBRILLE_{name}"), i64::from(number)));
+    assert_eq!(enumerators("lachsbrille_command"), BTreeMap::from(numbers));
 }
 
 #[test]
@@ -202,7 +256,16 @@ fn enumerators(of: &str) -> BTreeMap<String, i64> {
     enumerators.collect()
 }
 
-/// The header without comments and the preprocessor's lines.
+/// The number that a macro of the header stands for.
+fn macro_number(name: &str) -> u32 {
+    let header = read("include/lachsbrille.h");
+    let defined = format!("#define {name} ");
+    let line = header.lines().find_map(|line| line.strip_prefix(&defined));
+    let number = line.unwrap_or_else(|| panic!("{name} is not defined"));
+    number.trim_end_matches('u').parse().unwrap()
+}
+
+/// The header as C has it, without comments and the preprocessor's lines.
 fn header() -> String {
     let mut text = String::new();
     let header = read("include/lachsbrille.h");
@@ -212,10 +275,17 @@ fn header() -> String {
         rest = comment.split_once("*/").unwrap().1;
     }
     text.push_str(rest);
-    let lines = text.lines().filter(|line| !line.starts_with('#'));
-    let lines: Vec<&str> = lines.filter(|line| *line != "extern \"C\" {").collect();
-    let text = lines.join("\n");
-    text.trim_end().trim_end_matches('}').to_owned()
+    let mut lines = Vec::new();
+    let mut is_cplusplus = false;
+    for line in text.lines() {
+        match line {
+            "#ifdef __cplusplus" => is_cplusplus = true,
+            "#else" | "#endif" => is_cplusplus = false,
+            _ if is_cplusplus || line.starts_with('#') => {}
+            _ => lines.push(line),
+        }
+    }
+    lines.join("\n")
 }
 
 /// A declaration with one blank between words, and none behind a star.
@@ -233,14 +303,19 @@ fn functions_of_rattle() -> Declared {
             let (parameters, rest) = rest.split_once(')').unwrap();
             let result = rest.trim().strip_prefix("->").unwrap();
             let result = result.split_whitespace().next().unwrap();
+            let mut result = c_type(result, "terminal", &source);
             let mut signature = Vec::new();
+            if size_of(&result).is_some_and(|size| size > LARGEST_BY_VALUE) {
+                signature.push(format!("{result} *out"));
+                result = "void".to_owned();
+            }
             for parameter in list(parameters) {
                 let (name, kind) = parameter.split_once(": ").unwrap();
-                let renamed = NAMES.iter().find(|(short, _)| *short == name);
-                let name = renamed.map_or(name, |(_, long)| long);
+                let is_it = |it: &&(&str, &str, &str)| (it.0, it.1) == (name, kind);
+                let name = NAMES.iter().find(is_it).map_or(name, |it| it.2);
                 signature.extend(lent(name, kind, &source));
             }
-            signature.push(c_type(result, "terminal", &source));
+            signature.push(result);
             assert_eq!(declared.insert(name.to_owned(), signature), None);
         }
     }
@@ -257,9 +332,22 @@ fn lent(name: &str, kind: &str, source: &str) -> Vec<String> {
         vec![format!("{} *{name}", item(slice)), length]
     } else if let Some(number) = kind.strip_prefix("&mut ") {
         vec![format!("{} *{name}", c_type(number, "terminal", source))]
+    } else if let Some(lent) = kind.strip_prefix('&') {
+        vec![format!(
+            "const {} *{name}",
+            c_type(lent, "terminal", source)
+        )]
     } else {
         vec![format!("{} {name}", c_type(kind, "terminal", source))]
     }
+}
+
+/// Bytes of a struct, as the C compilers lay it out.
+fn size_of(name: &str) -> Option<usize> {
+    let start = format!("{name} size ");
+    let layout = read("tests/interface/layout.txt");
+    let line = layout.lines().find_map(|line| line.strip_prefix(&start))?;
+    line.split(' ').next()?.parse().ok()
 }
 
 /// C's name of a type in a source of this crate, which says whose others are.
@@ -305,8 +393,8 @@ fn functions_of_bindings() -> Declared {
     for function in source.split("pub fn ").skip(1) {
         let (name, rest) = function.split_once('(').unwrap();
         let (parameters, rest) = rest.split_once(')').unwrap();
-        let result = rest.trim().strip_prefix("-> ").unwrap();
-        let result = result.split_once(';').unwrap().0;
+        let result = rest.split_once(';').unwrap().0;
+        let result = result.strip_prefix(" -> ").map(bound_type);
         let mut signature: Vec<String> = list(parameters)
             .map(|parameter| {
                 let (name, kind) = parameter.split_once(": ").unwrap();
@@ -319,7 +407,7 @@ fn functions_of_bindings() -> Declared {
                 }
             })
             .collect();
-        signature.push(bound_type(result));
+        signature.push(result.unwrap_or_else(|| "void".to_owned()));
         assert_eq!(declared.insert(name.to_owned(), signature), None);
     }
     declared
@@ -348,6 +436,8 @@ fn fields_of(fields: &str, c_type: impl Fn(&str) -> String) -> Vec<String> {
         .filter_map(|line| line.trim().strip_prefix("pub "));
     let fields = fields.map(|field| {
         let (name, kind) = field.trim_end_matches(',').split_once(": ").unwrap();
+        let renamed = FIELDS.iter().find(|(here, _)| *here == name);
+        let name = renamed.map_or(name, |(_, c)| c);
         match kind.strip_prefix('[') {
             Some(array) => {
                 let (item, count) = array.trim_end_matches(']').split_once("; ").unwrap();

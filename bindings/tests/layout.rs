@@ -4,8 +4,8 @@
 #![cfg(target_pointer_width = "64")]
 
 use lachsbrille::c::{
-    ClientSession, ClientStep, DeviceLabels, LogFields, LogMarks, LogOutcome, LogRecord,
-    LogWritten, MessageFields, Record,
+    Device, DeviceLabels, Element, LogFields, LogMarks, LogOutcome, LogRecord, LogWritten,
+    MessageFields, Presentation, ProcessData, Property, Record, Session, Span, Step,
 };
 use std::mem::{align_of, offset_of, size_of};
 
@@ -18,7 +18,8 @@ macro_rules! lines {
             $lines.push(format!("{} size {size} align {align}", $name));
             $(
                 let (offset, size) = (offset_of!($type, $field), size_of_field(|it: &$type| &it.$field));
-                $lines.push(format!("{}.{} at {offset} size {size}", $name, stringify!($field)));
+                let field = c_name(stringify!($field));
+                $lines.push(format!("{}.{field} at {offset} size {size}", $name));
             )*
         )*
     };
@@ -26,6 +27,14 @@ macro_rules! lines {
 
 fn size_of_field<Struct, Field>(_: impl Fn(&Struct) -> &Field) -> usize {
     size_of::<Field>()
+}
+
+/// `type` is a word of Rust.
+fn c_name(field: &str) -> &str {
+    match field {
+        "element_type" => "type",
+        _ => field,
+    }
 }
 
 #[test]
@@ -36,10 +45,20 @@ fn structs_have_c_s_layout() {
         DeviceLabels "lachsbrille_device_labels" {
             number structure localization extended extended_length
         }
-        ClientSession "lachsbrille_client_session" { stage active announced received kept }
-        ClientStep "lachsbrille_client_step" { session number place record rule item }
+        Span "lachsbrille_span" { from to }
+        Device "lachsbrille_device" {
+            designator version name serial structure localization extended
+        }
+        Element "lachsbrille_element" { element_type designator number parent entries }
+        ProcessData "lachsbrille_process_data" {
+            ddi properties triggers designator presentation
+        }
+        Property "lachsbrille_property" { ddi value designator presentation }
+        Presentation "lachsbrille_presentation" { offset scale decimals unit }
+        Session "lachsbrille_session" { announced received kept stage active }
+        Step "lachsbrille_step" { session place number record rule item }
         MessageFields "lachsbrille_message_fields" {
-            number command element ddi value errors answered
+            number value element ddi command errors answered
         }
         LogFields "lachsbrille_log_fields" {
             time days north east up status pdop hdop satellites gps_time gps_date

@@ -33,4 +33,5 @@ mod tally;
 mod texts;
 pub mod vectors;
 pub mod verdict;
+pub mod views;
 mod wording;

@@ -15,6 +15,7 @@ use crate::sessions;
 use crate::tally::Tallies;
 use crate::texts::{self, Report};
 use crate::verdict::{Effort, Verdict};
+use crate::views;
 use std::fs;
 use std::io;
 use std::path::PathBuf;
@@ -79,6 +80,8 @@ struct Run {
     long: bool,
     tallies: Tallies,
     census: Census,
+    /// Fields of records.
+    fields: part::Report,
     differences: u64,
 }
 
@@ -89,6 +92,7 @@ impl Run {
             long,
             tallies: Tallies::default(),
             census: Census::new(),
+            fields: views::report(),
             differences: 0,
         }
     }
@@ -147,6 +151,7 @@ impl Run {
             });
         }
         self.compare_queries(input, verdict, pool);
+        views::compare(&mut self.fields, input, verdict, pool);
     }
 
     fn effort(&self, input: &Input) -> Effort {
@@ -221,14 +226,15 @@ impl Run {
             println!("first text that differs: {}", hex(text));
         }
         sessions.print();
-        parts.iter().for_each(part::Report::print);
+        let parts: Vec<&part::Report> = [&self.fields].into_iter().chain(parts).collect();
+        parts.iter().for_each(|part| part.print());
         let mut unseen = [
             self.tallies.unseen(),
             self.census.unseen(),
             sessions.unseen(),
         ]
         .concat();
-        unseen.extend(parts.iter().flat_map(part::Report::unseen));
+        unseen.extend(parts.iter().flat_map(|part| part.unseen()));
         for what in &unseen {
             println!("compare: {what} was never seen");
         }
@@ -236,11 +242,11 @@ impl Run {
             + texts.compared
             + sessions.lists
             + sessions.singles
-            + parts.iter().map(part::Report::compared).sum::<u64>();
+            + parts.iter().map(|part| part.compared()).sum::<u64>();
         let differences = self.differences
             + texts.differences
             + sessions.differences
-            + parts.iter().map(part::Report::differences).sum::<u64>();
+            + parts.iter().map(|part| part.differences()).sum::<u64>();
         println!("compare: {inputs} inputs, {differences} differences");
         differences == 0 && unseen.is_empty()
     }

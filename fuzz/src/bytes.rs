@@ -33,6 +33,11 @@ impl<'a> Bytes<'a> {
         i32::from_le_bytes(self.array())
     }
 
+    /// The upper bits of numbers with a range, which stand in one byte.
+    pub fn wide(&mut self) -> Wide {
+        Wide { bits: self.byte() }
+    }
+
     /// What a list has more than it needs, or less.
     pub fn more(&mut self) -> isize {
         i8::from_le_bytes(self.array()).into()
@@ -44,5 +49,39 @@ impl<'a> Bytes<'a> {
 
     pub fn rest(&mut self) -> &'a [u8] {
         std::mem::take(&mut self.left)
+    }
+}
+
+/// For each of up to four numbers, what goes above the bits that it is stated
+/// in: nothing, or a bit that a narrower number would lose.
+#[derive(Clone, Copy)]
+pub struct Wide {
+    bits: u8,
+}
+
+impl Wide {
+    /// The number at this place, which is stated in so many bits.
+    pub fn number(self, place: u8, stated: impl Into<u32>, bits: u32) -> u32 {
+        let above = match self.bits >> (2 * place) & 3 {
+            0 => 0,
+            1 => 1 << bits,
+            2 => 1 << 24,
+            _ => 1 << 31,
+        };
+        stated.into() | above
+    }
+}
+
+#[cfg(test)]
+mod tests {
+    use super::*;
+
+    #[test]
+    fn upper_bits_go_above_what_is_stated() {
+        let wide = Wide {
+            bits: 0b11_10_01_00,
+        };
+        let numbers = [0, 1, 2, 3].map(|place| wide.number(place, 0x12_u8, 8));
+        assert_eq!(numbers, [0x12, 0x112, 0x100_0012, 0x8000_0012]);
     }
 }

@@ -2,7 +2,8 @@
 //! both sides: the answers and all lent memory have to be the same.
 //!
 //! The first byte is the group of calls, then follow their arguments at fixed
-//! places, and last the bytes that the calls are about. Lengths of lists are
+//! places, and last the bytes that the calls are about. The first argument of
+//! a group with numbers that may be out of range is a byte of their upper bits. Lengths of lists are
 //! stated as what is more or less than needed, so that a 0 just fits.
 
 mod bytes;
@@ -25,7 +26,8 @@ use bytes::Bytes;
 /// The groups of calls, by the first byte of an input.
 #[derive(Clone, Copy, Debug, PartialEq, Eq)]
 pub enum Group {
-    /// Reading, checking, a text, the labels and a judgement of one pool.
+    /// Reading, checking, a text, the labels, a judgement and the fields of
+    /// some records of one pool.
     Pool,
     /// A list of session calls from a new session on.
     Session,

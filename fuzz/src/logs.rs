@@ -4,13 +4,14 @@ use crate::bytes::Bytes;
 use compare::logs::{layout_by_both, Reading, Whole};
 
 /// Bytes of the arguments.
-pub const ARGUMENTS: usize = 6;
+pub const ARGUMENTS: usize = 7;
 /// Bytes of a record before its optional fields, and of those by their marks.
 const TIME_AND_DAYS: usize = 6;
 const WIDTHS: [usize; 9] = [4, 4, 4, 1, 2, 2, 1, 4, 2];
 
 pub fn compare(bytes: &mut Bytes) -> Result<(), String> {
-    let layout = bytes.word();
+    let wide = bytes.wide();
+    let layout = wide.number(0, bytes.word(), 16);
     let logged = header_count(bytes.word());
     let more = [bytes.more(), bytes.more()];
     let bytes = bytes.rest();
@@ -47,7 +48,7 @@ pub fn header_count(word: u16) -> usize {
 }
 
 /// Where a record's count stands under a layout.
-pub fn count_at(layout: u16) -> usize {
+pub fn count_at(layout: u32) -> usize {
     let marked = |bit: &usize| layout >> bit & 1 == 1;
     let widths = (0..WIDTHS.len()).filter(marked).map(|bit| WIDTHS[bit]);
     TIME_AND_DAYS + widths.sum::<usize>()

@@ -8,11 +8,14 @@ use second::Message;
 const LONGEST: usize = 20;
 
 pub fn compare(bytes: &mut Bytes) -> Result<(), String> {
+    let wide = bytes.wide();
     let room = usize::from(bytes.byte()) % (LONGEST + 1);
-    let command = bytes.byte();
-    let (element, ddi) = (bytes.word(), bytes.word());
+    let command = wide.number(0, bytes.byte(), 8);
+    let element = wide.number(1, bytes.word(), 16);
+    let ddi = bytes.word();
     let value = bytes.signed();
-    let (errors, answered) = (bytes.byte(), bytes.byte());
+    let errors = bytes.byte();
+    let answered = wide.number(2, bytes.byte(), 8);
     write(
         room,
         Message::Value {

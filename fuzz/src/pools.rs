@@ -8,22 +8,28 @@ use compare::lent::LentPool;
 use compare::library::{ENTRY_WORDS, FAULT_WORDS};
 use compare::queries::Query;
 use compare::verdict::Verdict;
+use compare::views::{views, View};
 
 /// Bytes of the arguments, and where some of them begin.
-pub const ARGUMENTS: usize = 17;
-pub const ID_AT: usize = 6;
-pub const COMMAND_AT: usize = 8;
-pub const ELEMENT_AT: usize = 9;
-pub const DDI_AT: usize = 11;
-pub const VALUE_AT: usize = 13;
+pub const ARGUMENTS: usize = 18;
+pub const WIDE_AT: usize = 0;
+pub const ID_AT: usize = 7;
+pub const COMMAND_AT: usize = 9;
+pub const ELEMENT_AT: usize = 10;
+pub const DDI_AT: usize = 12;
+pub const VALUE_AT: usize = 14;
+/// Records whose fields are read, the last ones of the pool.
+const VIEWED: usize = 4;
 
 pub fn compare(bytes: &mut Bytes) -> Result<(), String> {
+    let wide = bytes.wide();
     let (more_entries, more_words) = (bytes.more(), bytes.more());
     let filler = Filler::take(bytes);
-    let id = bytes.word();
+    let word = bytes.word();
+    let id = wide.number(0, word, 16);
     let order = Order {
-        command: bytes.byte(),
-        element: bytes.word(),
+        command: wide.number(1, bytes.byte(), 8),
+        element: wide.number(2, bytes.word(), 16),
         ddi: bytes.word(),
         value: bytes.signed(),
     };
@@ -37,9 +43,25 @@ pub fn compare(bytes: &mut Bytes) -> Result<(), String> {
     agree("checking", calls::check(lent, table, faults))?;
     agree("a text", Query::Text(id).compare(lent, table))?;
     agree("labels", Query::Labels.compare(lent, table))?;
-    judge_by_both(&pool, table, order)
-        .map(drop)
-        .map_err(|what| format!("{order:?}: {what}"))
+    judge_by_both(&pool, table, order).map_err(|what| format!("{order:?}: {what}"))?;
+    // At the starts of some records, and at a place that the input names.
+    let records = verdict.records.iter().rev().take(VIEWED);
+    for start in records.map(|record| record.start).chain([word]) {
+        fields(lent, start, order.ddi)?;
+    }
+    Ok(())
+}
+
+/// Everything that can be read there, and an entry that the input names.
+fn fields(pool: &LentPool, start: u16, n: u16) -> Result<(), String> {
+    for view in views(pool.bytes(), start).chain([View::Entry(n)]) {
+        let read = view.by_both(pool.bytes(), start);
+        read.map_err(|what| format!("{view:?} at {start}: {what}"))?;
+    }
+    match pool.is_changed() {
+        true => Err("the pool was changed by reading fields".into()),
+        false => Ok(()),
+    }
 }
 
 fn agree(call: &str, compared: Compared) -> Result<(), String> {

@@ -46,6 +46,7 @@ pub fn seeds() -> io::Result<Vec<Vec<u8>>> {
     let log = vectors::load_bytes("log-000-d49.hex")?;
     let mut seeds: Vec<Vec<u8>> = pools.iter().map(|pool| asked(pool, [0; 4])).collect();
     seeds.extend(FILLINGS.map(|filling| asked(&pool_q(), filling)));
+    seeds.extend(asked_wide(&pool_q()));
     for pool in pools.iter().filter(|pool| pool.len() < SHORT_POOL) {
         seeds.push(sent(pool));
         seeds.push(on_value(pool, |value| value[17] = ACTIVATE));
@@ -55,12 +56,15 @@ pub fn seeds() -> io::Result<Vec<Vec<u8>>> {
     seeds.extend(displayed());
     for layout in [0x0F, 0x1FF, 0, 0x155] {
         let [low, high] = u16::to_le_bytes(layout);
-        let header = [low, high, 20, 0, 0, 0, 0, 0];
-        seeds.push(input(Group::Log, &header[..6], &log));
-        seeds.push(input(Group::Log, &header[..6], &[0; 80]));
+        let header = [0, low, high, 20, 0, 0, 0, 0, 0];
+        seeds.push(input(Group::Log, &header[..7], &log));
+        seeds.push(input(Group::Log, &header[..7], &[0; 80]));
         // The fields and three pairs.
         seeds.push(input(Group::Written, &header, &[0; 30 + 15]));
     }
+    // A layout and decimals that are in range without their upper bits.
+    seeds.push(input(Group::Log, &[1, 0x0B, 0, 20, 0, 0, 0], &log));
+    seeds.push(input(Group::Written, &[1, 0x0B, 0, 20], &[0; 49]));
     for text in ["Spritze", "Lachsbrille äöü", "€ 🌾"] {
         seeds.push(input(Group::Text, &[], text.as_bytes()));
     }
@@ -70,7 +74,17 @@ pub fn seeds() -> io::Result<Vec<Vec<u8>>> {
 /// Command 4 for element 1 and DDI 141, which Q takes, and the text of ID 1.
 fn asked(pool: &[u8], filling: [u8; 4]) -> Vec<u8> {
     let asked = [1, 0, 4, 1, 0, 141, 0, 1, 0, 0, 0];
-    input(Group::Pool, &[&[0; 2], &filling[..], &asked].concat(), pool)
+    input(Group::Pool, &[&[0; 3], &filling[..], &asked].concat(), pool)
+}
+
+/// The text of ID 65536, command 259 and element 65537: in range without their
+/// upper bits.
+fn asked_wide(pool: &[u8]) -> [Vec<u8>; 3] {
+    [1, 1 << 2, 1 << 4].map(|wide| {
+        let mut input = asked(pool, [0; 4]);
+        input[1] = wide;
+        input
+    })
 }
 
 /// A pool that is offered, sent and activated, with refusals between.
@@ -122,13 +136,21 @@ fn short_areas() -> [Vec<u8>; 3] {
     ]
 }
 
-fn messages() -> [Vec<u8>; 2] {
-    let written = b"\x08\x03\x12\0\x8D\0\xFF\xFF\xFF\xFF\x11\x03";
+fn messages() -> [Vec<u8>; 5] {
+    let written = b"\0\x08\x03\x12\0\x8D\0\xFF\xFF\xFF\xFF\x11\x03";
     let value = b"\x23\x01\x8D\0\xFF\xFF\xFF\xFF";
     let acknowledge = b"\x2D\x01\x8D\0\x10\xF3\xFF\xFF";
+    let wide = |bits: u8| {
+        let mut arguments = *written;
+        arguments[0] = bits;
+        input(Group::Message, &arguments, value)
+    };
     [
         input(Group::Message, written, value),
         input(Group::Message, written, acknowledge),
+        wide(1),
+        wide(1 << 2),
+        wide(1 << 4),
     ]
 }
 
@@ -146,10 +168,14 @@ fn displayed() -> Vec<Vec<u8>> {
     ];
     let one = |(scale, decimals): (u32, u8)| {
         let numbers = [100_i32.to_le_bytes(), (-20_i32).to_le_bytes()];
-        let value = [&numbers.concat()[..], &scale.to_le_bytes()].concat();
+        let value = [&[0], &numbers.concat()[..], &scale.to_le_bytes()].concat();
         input(Group::Displayed, &value, &[decimals])
     };
-    scales.map(one).into()
+    let mut seeds = scales.map(one).to_vec();
+    // 258 decimals, of which the lowest eight bits are in range.
+    seeds.push(seeds[0].clone());
+    seeds[scales.len()][1] = 1;
+    seeds
 }
 
 fn pools() -> io::Result<Vec<Vec<u8>>> {

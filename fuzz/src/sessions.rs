@@ -50,16 +50,17 @@ pub fn compare_value(bytes: &mut Bytes) -> Result<(), String> {
     let wide = bytes.byte();
     let has = |bit: u8| wide >> bit & 1;
     // Numbers that would be right without their upper bits.
-    let size = |place: u8| sizes[usize::from(place)] as usize | usize::from(has(place)) << 32;
+    let size = |place: u8| sizes[usize::from(place)] | u32::from(has(place)) << 31;
     let value = Value {
-        stage: u32::from(stage) | u32::from(has(3)) << 8,
-        active: u32::from(active) | u32::from(has(4)) << 8,
         announced: size(0),
         received: size(1),
         kept: size(2),
+        stage: u16::from(stage) | u16::from(has(3)) << 8,
+        active: u16::from(active) | u16::from(has(4)) << 8,
     };
-    let area = |size: usize, more: isize| -> Vec<u8> {
-        untouched(size.min(LONGEST_AREA).saturating_add_signed(more))
+    let area = |size: u32, more: isize| -> Vec<u8> {
+        let size = (size as usize).min(LONGEST_AREA);
+        untouched(size.saturating_add_signed(more))
     };
     let mut staging = area(value.announced, bytes.more());
     let kept = area(value.announced.max(value.kept), bytes.more());
@@ -93,7 +94,8 @@ impl Plan {
     fn call(&self, value: &Value, pool: &[u8], staging: &[u8]) -> Call {
         let word = usize::from(self.word);
         let more = isize::from(self.byte as i8);
-        let rest = value.announced.wrapping_sub(value.received);
+        let (announced, received) = (value.announced as usize, value.received as usize);
+        let rest = announced.wrapping_sub(received);
         match self.kind % 8 {
             0 => Call::Offer(match self.byte % 4 {
                 0 => pool.len().saturating_add_signed((self.word as i16).into()),
@@ -101,14 +103,14 @@ impl Plan {
                 2 => word << 16 | pool.len(),
                 _ => MAX_POOL_BYTES.saturating_add_signed((self.word as i16).into()),
             }),
-            1 => Call::Transfer(piece(pool, value.received, word)),
+            1 => Call::Transfer(piece(pool, received, word)),
             2 => {
                 let length = rest.min(LONGEST_AREA).saturating_add_signed(more);
-                Call::Transfer(piece(pool, value.received, length))
+                Call::Transfer(piece(pool, received, length))
             }
             3 => Call::Transfer(piece(pool, word, self.byte.into())),
             4 => {
-                let sent = staging.get(..value.announced).unwrap_or(staging);
+                let sent = staging.get(..announced).unwrap_or(staging);
                 Call::Activate(ENTRY_WORDS * records(sent).saturating_add_signed(more))
             }
             5 => Call::Deactivate,

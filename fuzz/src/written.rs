@@ -9,7 +9,8 @@ use second::LogFields;
 const MOST_PAIRS: usize = 300;
 
 pub fn compare(bytes: &mut Bytes) -> Result<(), String> {
-    let layout = bytes.word();
+    let wide = bytes.wide();
+    let layout = wide.number(0, bytes.word(), 16);
     let logged = header_count(bytes.word());
     let more = [bytes.more(), bytes.more(), bytes.more(), bytes.more()];
     let [room, count, ordinals, values] = more;

@@ -16,8 +16,8 @@ const NO_SUCH_TRIGGER: u8 = 0x08;
 const NOT_SETTABLE: u8 = 0x10;
 const BAD_VALUE: u8 = 0x20;
 
-const TIME_INTERVAL: u8 = 4;
-const DISTANCE_INTERVAL: u8 = 5;
+const TIME_INTERVAL: u32 = 4;
+const DISTANCE_INTERVAL: u32 = 5;
 
 /// What a data record allows.
 struct Allowed {
@@ -30,12 +30,12 @@ struct Allowed {
 pub fn judge(
     pool: &[u8],
     table: &mut [Record],
-    command: u8,
-    element: u16,
+    command: u32,
+    element: u32,
     ddi: u16,
     value: i32,
 ) -> Result<u8, u8> {
-    if element > MAX_ELEMENT_NUMBER {
+    if element > MAX_ELEMENT_NUMBER.into() {
         return Err(BAD_ELEMENT_NUMBER);
     }
     let records = accepted_records(pool, table)?;
@@ -51,12 +51,12 @@ pub fn judge(
     Ok(data.judge(command, value))
 }
 
-fn find_element<'a>(pool: &'a [u8], records: &[Record], number: u16) -> Option<Element<'a>> {
+fn find_element<'a>(pool: &'a [u8], records: &[Record], number: u32) -> Option<Element<'a>> {
     records
         .iter()
         .filter(|record| record.kind == Kind::Det)
         .map(|record| Element::of(record.bytes(pool)))
-        .find(|element| element.number == number)
+        .find(|element| u32::from(element.number) == number)
 }
 
 /// Looks for the DDI among the records first: few have it, so that the list is
@@ -86,7 +86,7 @@ impl Allowed {
     }
 
     /// For a command with a value.
-    fn judge(&self, command: u8, value: i32) -> u8 {
+    fn judge(&self, command: u32, value: i32) -> u8 {
         let is_interval = matches!(command, TIME_INTERVAL | DISTANCE_INTERVAL);
         let trigger = match command {
             3 | 0xA if !self.settable => return NOT_SETTABLE,

@@ -18,6 +18,7 @@ mod queries;
 mod rules;
 mod session;
 mod texts;
+mod views;
 
 pub use book::{Book, Entry};
 pub use displayed::displayed;
@@ -33,3 +34,7 @@ pub use queries::{labels, text, Labels};
 pub use rules::check;
 pub use session::{Answer, Session, Stage, Step};
 pub use texts::text_is_sound;
+pub use views::{
+    read_device, read_element, read_entry, read_presentation, read_process_data, read_property,
+    DeviceView, ElementView, PresentationView, ProcessDataView, PropertyView,
+};

@@ -67,7 +67,7 @@ pub struct LogRefusal {
 }
 
 /// How many fields a layout marks, or the number of the refusal.
-pub fn optional_fields(layout: u16) -> Result<u32, u8> {
+pub fn optional_fields(layout: u32) -> Result<u32, u8> {
     Shape::of(layout).map(|shape| shape.layout.count_ones())
 }
 
@@ -76,7 +76,7 @@ pub fn optional_fields(layout: u16) -> Result<u32, u8> {
 /// log values in the header.
 pub fn read_record(
     bytes: &[u8],
-    layout: u16,
+    layout: u32,
     logged: usize,
     ordinals: &mut [u8],
     values: &mut [i32],
@@ -106,7 +106,7 @@ pub fn read_record(
 /// `to` and gives its length, or the number of the refusal.
 pub fn write_record(
     to: &mut [u8],
-    layout: u16,
+    layout: u32,
     fields: &LogFields,
     logged: usize,
     ordinals: &[u8],
@@ -136,7 +136,7 @@ pub fn write_record(
 }
 
 /// Reads a log and gives the number of its records.
-pub fn read_log(bytes: &[u8], layout: u16, logged: usize) -> Result<usize, LogRefusal> {
+pub fn read_log(bytes: &[u8], layout: u32, logged: usize) -> Result<usize, LogRefusal> {
     let mut start = 0;
     let refusal = |number, start| LogRefusal { number, start };
     let shape = Shape::of(layout).map_err(|number| refusal(number, start))?;
@@ -161,10 +161,10 @@ struct Shape {
 
 impl Shape {
     #[inline]
-    fn of(layout: u16) -> Result<Self, u8> {
-        let head = *HEADS.get(usize::from(layout)).ok_or(BAD_LAYOUT)?;
+    fn of(layout: u32) -> Result<Self, u8> {
+        let head = *HEADS.get(layout as usize).ok_or(BAD_LAYOUT)?;
         Ok(Shape {
-            layout,
+            layout: layout as u16,
             head: usize::from(head),
         })
     }

@@ -20,11 +20,11 @@ pub struct Labels {
 /// The designator or unit text of the record with this ID, as a part of
 /// `pool`, or the number of the refusal. The table is filled whenever the
 /// pool is read.
-pub fn text<'a>(pool: &'a [u8], table: &mut [Record], id: u16) -> Result<&'a [u8], u8> {
+pub fn text<'a>(pool: &'a [u8], table: &mut [Record], id: u32) -> Result<&'a [u8], u8> {
     let records = accepted_records(pool, table)?;
     let record = records
         .iter()
-        .find(|record| record.id == id)
+        .find(|record| u32::from(record.id) == id)
         .ok_or(UNKNOWN_ID)?;
     let bytes = record.bytes(pool);
     let text = match record.kind {

@@ -1,4 +1,5 @@
 /* Every function, with arguments and answers that all differ: a swapped, shifted or cut one shows. */
+#include "calls.h"
 #include "check.h"
 #include "lachsbrille.h"
 #include "pools.h"
@@ -50,7 +51,7 @@ static void pools(void)
     entry(table + 1, 31, 13, LACHSBRILLE_DET, 1);
     entry(table + 2, 44, 15, LACHSBRILLE_DET, 2);
     entry(table + 3, LEFT_WORD, LEFT_WORD, LEFT_WORD, LEFT_WORD);
-    EQUAL(lachsbrille_check(q, Q, table, 4, faults, 0, &value), LACHSBRILLE_OK);
+    EQUAL(lachsbrille_check(q, Q, table, 4, LACHSBRILLE_NOTHING, 0, &value), LACHSBRILLE_OK);
     EQUAL(value, 0);
     entry(table + 3, 59, 12, LACHSBRILLE_DPD, 3);
 
@@ -62,7 +63,7 @@ static void pools(void)
     table_is_of_named(table);
 
     memset(table, LEFT, sizeof table);
-    labels = lachsbrille_labels(named, NAMED, table, 5);
+    labels = labels_of(named, NAMED, table, 5);
     EQUAL(labels.number, LACHSBRILLE_OK);
     SAME(labels.structure, named + 55, 7);
     SAME(labels.localization, named + 62, 7);
@@ -75,10 +76,98 @@ static void pools(void)
 
     EQUAL(lachsbrille_text_is_sound((const uint8_t *)"D\xC3\xBCse", 5), true);
     EQUAL(lachsbrille_text_is_sound((const uint8_t *)"D\xC3\xBCse", 2), false);
-    EQUAL(lachsbrille_text_is_sound((const uint8_t *)"", 0), true);
+    EQUAL(lachsbrille_text_is_sound(LACHSBRILLE_NOTHING, 0), true);
 }
 
-static void session_is(lachsbrille_client_session given, unsigned stage, unsigned active, unsigned announced,
+static void span_is(lachsbrille_span given, size_t from, size_t to)
+{
+    EQUAL(given.from, from);
+    EQUAL(given.to, to);
+}
+
+/* Every field of a record of each kind; pools, starts and entries are told apart. */
+static void fields(void)
+{
+    lachsbrille_device device = read_device(different, DIFFERENT, A_DEVICE);
+    lachsbrille_element element = read_element(different, DIFFERENT, AN_ELEMENT);
+    lachsbrille_process_data data = read_process_data(different, DIFFERENT, SOME_DATA);
+    lachsbrille_property property = read_property(different, DIFFERENT, A_PROPERTY);
+    lachsbrille_presentation presentation = read_presentation(different, DIFFERENT, A_PRESENTATION);
+
+    span_is(device.designator, 8, 11);
+    span_is(device.version, 12, 14);
+    EQUAL(device.name, 0x1817161514131211);
+    span_is(device.serial, 23, 24);
+    span_is(device.structure, 24, 31);
+    span_is(device.localization, 31, 38);
+    span_is(device.extended, 39, 43);
+
+    EQUAL(element.type, 5);
+    span_is(element.designator, 50, 52);
+    EQUAL(element.number, 0x0706);
+    EQUAL(element.parent, 0x0908);
+    EQUAL(element.entries, 2);
+    EQUAL(lachsbrille_read_entry(different, DIFFERENT, AN_ELEMENT, 0), 0x0B0A);
+    EQUAL(lachsbrille_read_entry(different, DIFFERENT, AN_ELEMENT, 1), 0x0D0C);
+    /* Behind its list the next record begins, far behind it nothing is left. */
+    EQUAL(lachsbrille_read_entry(different, DIFFERENT, AN_ELEMENT, 2), 'D' | 'P' << 8);
+    EQUAL(lachsbrille_read_entry(different, DIFFERENT, AN_ELEMENT, 65535), 0);
+
+    EQUAL(data.ddi, 0x1910);
+    EQUAL(data.properties, 0x1A);
+    EQUAL(data.triggers, 0x1B);
+    span_is(data.designator, 72, 73);
+    EQUAL(data.presentation, 0x1D1C);
+
+    EQUAL(property.ddi, 0x2120);
+    EQUAL(property.value, -0x02DBDCDE);
+    span_is(property.designator, 87, 87);
+    EQUAL(property.presentation, 0x2625);
+
+    EQUAL(presentation.offset, -0x0BD4D5D7);
+    EQUAL(presentation.scale, 0x2F2E2D2C);
+    EQUAL(presentation.decimals, 0x30);
+    span_is(presentation.unit, 104, 107);
+}
+
+/* Bytes past the end are 0, whatever lies there. */
+static void fields_past_the_end(void)
+{
+    lachsbrille_device device = read_device(different, A_DEVICE + 14, A_DEVICE);
+    lachsbrille_element element = read_element(different, AN_ELEMENT + 10, AN_ELEMENT);
+    lachsbrille_process_data data = read_process_data(different, SOME_DATA + 6, SOME_DATA);
+    lachsbrille_property property = read_property(different, A_PROPERTY + 8, A_PROPERTY);
+    lachsbrille_presentation presentation = read_presentation(LACHSBRILLE_NOTHING, 0, 65535);
+
+    /* Of the NAME two bytes are left. */
+    span_is(device.version, 12, 14);
+    EQUAL(device.name, 0x1211);
+    span_is(device.serial, 23, 23);
+    span_is(device.structure, 23, 30);
+    span_is(device.localization, 30, 37);
+    span_is(device.extended, 38, 38);
+    EQUAL(element.type, 5);
+    span_is(element.designator, 50, 52);
+    EQUAL(element.number, 0x06);
+    EQUAL(element.parent, 0);
+    EQUAL(element.entries, 0);
+    EQUAL(lachsbrille_read_entry(different, AN_ELEMENT + 16, AN_ELEMENT, 0), 0x0A);
+    EQUAL(data.ddi, 0x10);
+    EQUAL(data.properties, 0);
+    EQUAL(data.triggers, 0);
+    span_is(data.designator, 72, 72);
+    EQUAL(data.presentation, 0);
+    EQUAL(property.ddi, 0x2120);
+    EQUAL(property.value, 0x22);
+    span_is(property.designator, 87, 87);
+    EQUAL(property.presentation, 0);
+    EQUAL(presentation.offset, 0);
+    EQUAL(presentation.scale, 0);
+    EQUAL(presentation.decimals, 0);
+    span_is(presentation.unit, 65550, 65550);
+}
+
+static void session_is(lachsbrille_session given, unsigned stage, unsigned active, unsigned announced,
                        unsigned received, unsigned kept)
 {
     EQUAL(given.stage, stage);
@@ -88,7 +177,7 @@ static void session_is(lachsbrille_client_session given, unsigned stage, unsigne
     EQUAL(given.kept, kept);
 }
 
-static void answer_is(lachsbrille_client_step given, unsigned number, unsigned place, unsigned record, unsigned rule,
+static void answer_is(lachsbrille_step given, unsigned number, unsigned place, unsigned record, unsigned rule,
                       unsigned item)
 {
     EQUAL(given.number, number);
@@ -102,8 +191,8 @@ static void sessions(void)
 {
     uint8_t staging[90], kept[80];
     lachsbrille_record table[5];
-    lachsbrille_client_session session = lachsbrille_session_new();
-    lachsbrille_client_step step;
+    lachsbrille_session session = lachsbrille_session_new();
+    lachsbrille_step step;
     int at;
 
     session_is(session, LACHSBRILLE_STAGE_NONE, 0, 0, 0, 0);
@@ -114,24 +203,24 @@ static void sessions(void)
     /* An active session with every size another: the offer's size is neither area's length. */
     session.active = 1;
     session.kept = 60;
-    step = lachsbrille_session_offer(session, Q, staging, 90, kept, 80);
+    step = offer(session, Q, staging, 90, kept, 80);
     session_is(step.session, LACHSBRILLE_STAGE_OFFERED, 1, Q, 0, 60);
     answer_is(step, LACHSBRILLE_OK, 0, 0, 0, 0);
-    EQUAL(lachsbrille_session_offer(session, 81, staging, 90, kept, 80).number, LACHSBRILLE_SHORT_AREA);
-    EQUAL(lachsbrille_session_offer(session, 81, staging, 80, kept, 80).number, LACHSBRILLE_SHORT_AREA);
+    EQUAL(offer(session, 81, staging, 90, kept, 80).number, LACHSBRILLE_SHORT_AREA);
+    EQUAL(offer(session, 81, staging, 80, kept, 80).number, LACHSBRILLE_SHORT_AREA);
 
-    step = lachsbrille_session_transfer(step.session, q, ELEMENT_END, staging, 90);
+    step = transfer(step.session, q, ELEMENT_END, staging, 90);
     session_is(step.session, LACHSBRILLE_STAGE_OFFERED, 1, Q, ELEMENT_END, 60);
     answer_is(step, LACHSBRILLE_OK, 0, 0, 0, 0);
     SAME(staging, q, ELEMENT_END);
-    step = lachsbrille_session_transfer(step.session, q + ELEMENT_END, Q - ELEMENT_END, staging, 90);
+    step = transfer(step.session, q + ELEMENT_END, Q - ELEMENT_END, staging, 90);
     session_is(step.session, LACHSBRILLE_STAGE_OFFERED, 1, Q, Q, 60);
     SAME(staging, q, Q);
     for (at = Q; at < 90; at++) {
         EQUAL(staging[at], LEFT);
     }
 
-    step = lachsbrille_session_activate(step.session, staging, 90, kept, 80, table, 5);
+    step = activate(step.session, staging, 90, kept, 80, table, 5);
     session_is(step.session, LACHSBRILLE_STAGE_NONE, 1, 0, 0, Q);
     answer_is(step, LACHSBRILLE_OK, 0, 0, 0, 0);
     SAME(kept, q, Q);
@@ -143,14 +232,14 @@ static void sessions(void)
     entry(table + 4, LEFT_WORD, LEFT_WORD, LEFT_WORD, LEFT_WORD);
 
     /* Refused with a fault, and with a place. What was kept stays. */
-    session = lachsbrille_session_offer(step.session, ELEMENT_END, staging, 90, kept, 80).session;
-    session = lachsbrille_session_transfer(session, q, ELEMENT_END, staging, 90).session;
-    step = lachsbrille_session_activate(session, staging, 90, kept, 80, table, 5);
+    session = offer(step.session, ELEMENT_END, staging, 90, kept, 80).session;
+    session = transfer(session, q, ELEMENT_END, staging, 90).session;
+    step = activate(session, staging, 90, kept, 80, table, 5);
     session_is(step.session, LACHSBRILLE_STAGE_NONE, 1, 0, 0, Q);
     answer_is(step, LACHSBRILLE_FAULTY, 0, 3, 6, 2);
-    session = lachsbrille_session_offer(step.session, 70, staging, 90, kept, 80).session;
-    session = lachsbrille_session_transfer(session, q, 70, staging, 90).session;
-    step = lachsbrille_session_activate(session, staging, 90, kept, 80, table, 5);
+    session = offer(step.session, 70, staging, 90, kept, 80).session;
+    session = transfer(session, q, 70, staging, 90).session;
+    step = activate(session, staging, 90, kept, 80, table, 5);
     session_is(step.session, LACHSBRILLE_STAGE_NONE, 1, 0, 0, Q);
     answer_is(step, LACHSBRILLE_CUT_RECORD, 59, 0, 0, 0);
     SAME(kept, q, Q);
@@ -161,7 +250,7 @@ static void sessions(void)
     session.announced = 13;
     session.received = 14;
     session.kept = 15;
-    step = lachsbrille_session_lost(session);
+    step = lost(session);
     session_is(step.session, 11, 12, 13, 14, 15);
     answer_is(step, LACHSBRILLE_IMPOSSIBLE_SESSION, 0, 0, 0, 0);
 
@@ -169,11 +258,11 @@ static void sessions(void)
     session.stage = LACHSBRILLE_STAGE_OFFERED;
     session.active = 1;
     session.received = 10;
-    step = lachsbrille_session_deactivate(session);
+    step = deactivate(session);
     session_is(step.session, LACHSBRILLE_STAGE_OFFERED, 0, 13, 10, 15);
-    step = lachsbrille_session_lost(session);
+    step = lost(session);
     session_is(step.session, LACHSBRILLE_STAGE_NONE, 0, 0, 0, 15);
-    step = lachsbrille_session_delete(session);
+    step = delete_pool(session);
     session_is(step.session, LACHSBRILLE_STAGE_NONE, 0, 0, 0, 0);
 }
 
@@ -264,7 +353,7 @@ static void logs(void)
     EQUAL(marks.count, 3);
 
     memset(to, LEFT, sizeof to);
-    written = lachsbrille_log_write_record(to, LENGTH + 1, LACHSBRILLE_LAYOUT_ALL, fields, LOGGED, ordinals, 3, values, 4, 2);
+    written = lachsbrille_log_write_record(to, LENGTH + 1, LACHSBRILLE_LAYOUT_ALL, &fields, LOGGED, ordinals, 3, values, 4, 2);
     EQUAL(written.number, LACHSBRILLE_OK);
     EQUAL(written.length, LENGTH);
     SAME(to, bytes, LENGTH);
@@ -272,7 +361,7 @@ static void logs(void)
 
     memset(read_ordinals, LEFT, sizeof read_ordinals);
     memset(read_values, LEFT, sizeof read_values);
-    record = lachsbrille_log_read_record(bytes, LENGTH, LACHSBRILLE_LAYOUT_ALL, LOGGED, read_ordinals, 3, read_values, 4);
+    record = read_log_record(bytes, LENGTH, LACHSBRILLE_LAYOUT_ALL, LOGGED, read_ordinals, 3, read_values, 4);
     EQUAL(record.number, LACHSBRILLE_OK);
     EQUAL(record.length, LENGTH);
     EQUAL(record.count, 2);
@@ -294,12 +383,12 @@ static void logs(void)
 
     memcpy(twice, bytes, LENGTH);
     memcpy(twice + LENGTH, bytes, LENGTH);
-    log = lachsbrille_log_read(twice, sizeof twice, LACHSBRILLE_LAYOUT_ALL, LOGGED);
+    log = read_log(twice, sizeof twice, LACHSBRILLE_LAYOUT_ALL, LOGGED);
     EQUAL(log.number, LACHSBRILLE_OK);
     EQUAL(log.count, 2);
     EQUAL(log.start, 0);
     twice[LENGTH + 36] = LOGGED;
-    log = lachsbrille_log_read(twice, sizeof twice, LACHSBRILLE_LAYOUT_ALL, LOGGED);
+    log = read_log(twice, sizeof twice, LACHSBRILLE_LAYOUT_ALL, LOGGED);
     EQUAL(log.number, LACHSBRILLE_BAD_ORDINAL);
     EQUAL(log.count, 0);
     EQUAL(log.start, LENGTH);
@@ -318,15 +407,13 @@ static void layout_bits(void)
         {LACHSBRILLE_LAYOUT_STATUS, 1, 4},     {LACHSBRILLE_LAYOUT_PDOP, 2, 5},     {LACHSBRILLE_LAYOUT_HDOP, 2, 6},
         {LACHSBRILLE_LAYOUT_SATELLITES, 1, 7}, {LACHSBRILLE_LAYOUT_GPS_TIME, 4, 8}, {LACHSBRILLE_LAYOUT_GPS_DATE, 2, 9},
     };
-    const uint8_t ordinals[1] = {0};
-    const int32_t values[1] = {0};
     unsigned all = 0;
     size_t at;
 
     for (at = 0; at < sizeof marks / sizeof *marks; at++) {
         uint8_t to[11];
         lachsbrille_log_written written =
-            lachsbrille_log_write_record(to, sizeof to, (uint16_t)marks[at].bit, fields, 0, ordinals, 0, values, 0, 0);
+            lachsbrille_log_write_record(to, sizeof to, marks[at].bit, &fields, 0, LACHSBRILLE_NOTHING, 0, LACHSBRILLE_NOTHING, 0, 0);
         EQUAL(written.number, LACHSBRILLE_OK);
         EQUAL(written.length, 6 + marks[at].width + 1);
         EQUAL(to[6], marks[at].value);
@@ -337,7 +424,10 @@ static void layout_bits(void)
 
 int main(void)
 {
+    EQUAL(lachsbrille_version(), LACHSBRILLE_VERSION);
     pools();
+    fields();
+    fields_past_the_end();
     sessions();
     exchange();
     logs();

@@ -24,7 +24,10 @@ template <typename Struct> constexpr bool is_plain()
 }
 
 static_assert(is_plain<lachsbrille_record>() && is_plain<lachsbrille_device_labels>(), "pools");
-static_assert(is_plain<lachsbrille_client_session>() && is_plain<lachsbrille_client_step>(), "sessions");
+static_assert(is_plain<lachsbrille_span>() && is_plain<lachsbrille_device>(), "fields");
+static_assert(is_plain<lachsbrille_element>() && is_plain<lachsbrille_process_data>(), "fields");
+static_assert(is_plain<lachsbrille_property>() && is_plain<lachsbrille_presentation>(), "fields");
+static_assert(is_plain<lachsbrille_session>() && is_plain<lachsbrille_step>(), "sessions");
 static_assert(is_plain<lachsbrille_message_fields>(), "messages");
 static_assert(is_plain<lachsbrille_log_fields>() && is_plain<lachsbrille_log_marks>(), "logs");
 static_assert(is_plain<lachsbrille_log_record>() && is_plain<lachsbrille_log_written>(), "logs");
@@ -44,21 +47,47 @@ void pools()
               LACHSBRILLE_OK,
           "the pool is checked");
     check(value == 0 && table[1].kind == LACHSBRILLE_DET && table[1].start == 31, "it is accepted");
-    const auto labels = lachsbrille_labels(pool.data(), pool.size(), table.data(), table.size());
+    lachsbrille_device_labels labels;
+    lachsbrille_labels(&labels, pool.data(), pool.size(), table.data(), table.size());
     check(labels.number == LACHSBRILLE_OK && labels.localization[1] == 0x6E, "it has labels");
     check(lachsbrille_text_is_sound(pool.data(), 3), "its mark is a text");
+}
+
+// A slice of any items that has none.
+void nothing()
+{
+    std::size_t value = 9;
+    check(lachsbrille_read(LACHSBRILLE_NOTHING, 0, LACHSBRILLE_NOTHING, 0, &value) == LACHSBRILLE_EMPTY_POOL && value == 0,
+          "an empty pool is refused");
+    check(lachsbrille_check(pool.data(), pool.size(), LACHSBRILLE_NOTHING, 0, LACHSBRILLE_NOTHING, 0, &value) ==
+                  LACHSBRILLE_SHORT_TABLE &&
+              value == 2,
+          "a table of nothing is too short");
+    lachsbrille_log_outcome log;
+    lachsbrille_log_read(&log, LACHSBRILLE_NOTHING, 0, LACHSBRILLE_LAYOUT_ALL, 0);
+    check(log.number == LACHSBRILLE_OK && log.count == 0, "a log may be empty");
+}
+
+void fields()
+{
+    lachsbrille_device device;
+    lachsbrille_read_device(&device, pool.data(), pool.size(), 0);
+    check(device.localization.from == 23 && pool[device.localization.from] == 'e', "it has a localization label");
+    lachsbrille_element element;
+    lachsbrille_read_element(&element, pool.data(), pool.size(), 31);
+    check(element.type == 1 && element.entries == 0, "it has an element");
 }
 
 void sessions()
 {
     std::vector<std::uint8_t> staging(64), kept(64);
     std::vector<lachsbrille_record> table(2);
-    auto session = lachsbrille_session_new();
-    session = lachsbrille_session_offer(session, pool.size(), staging.data(), staging.size(), kept.data(), kept.size())
-                  .session;
-    session = lachsbrille_session_transfer(session, pool.data(), pool.size(), staging.data(), staging.size()).session;
-    const auto step = lachsbrille_session_activate(session, staging.data(), staging.size(), kept.data(), kept.size(),
-                                                   table.data(), table.size());
+    const auto session = lachsbrille_session_new();
+    lachsbrille_step step;
+    lachsbrille_session_offer(&step, session, pool.size(), staging.data(), staging.size(), kept.data(), kept.size());
+    lachsbrille_session_transfer(&step, step.session, pool.data(), pool.size(), staging.data(), staging.size());
+    lachsbrille_session_activate(&step, step.session, staging.data(), staging.size(), kept.data(), kept.size(), table.data(),
+                                 table.size());
     check(step.number == LACHSBRILLE_OK && step.session.active == 1 && step.session.kept == pool.size(), "it is active");
 }
 
@@ -80,9 +109,10 @@ void logs()
     const std::uint8_t ordinal = 0;
     const std::int32_t value = -5;
     std::uint8_t bytes[12];
-    const auto written = lachsbrille_log_write_record(bytes, sizeof bytes, 0, fields, 1, &ordinal, 1, &value, 1, 1);
+    const auto written = lachsbrille_log_write_record(bytes, sizeof bytes, 0, &fields, 1, &ordinal, 1, &value, 1, 1);
     check(written.number == LACHSBRILLE_OK && written.length == sizeof bytes, "a log record is written");
-    const auto log = lachsbrille_log_read(bytes, sizeof bytes, 0, 1);
+    lachsbrille_log_outcome log;
+    lachsbrille_log_read(&log, bytes, sizeof bytes, 0, 1);
     check(log.number == LACHSBRILLE_OK && log.count == 1, "the log is read");
 }
 
@@ -90,7 +120,10 @@ void logs()
 
 int main()
 {
+    check(lachsbrille_version() == LACHSBRILLE_VERSION, "header and library are of one release");
     pools();
+    nothing();
+    fields();
     sessions();
     exchange();
     logs();

@@ -10,7 +10,7 @@ static bool is_asked(const char *step)
     return asked != NULL && strcmp(asked, step) == 0;
 }
 
-uint32_t lachsbrille_message_write_value(uint8_t *to, size_t to_length, uint8_t command, uint16_t element, uint16_t ddi,
+uint32_t lachsbrille_message_write_value(uint8_t *to, size_t to_length, uint32_t command, uint32_t element, uint16_t ddi,
                                          int32_t value)
 {
     (void)command, (void)element, (void)ddi, (void)value;

@@ -1,4 +1,5 @@
 /* Every refusal of every call, by its name in the header, and what lent memory holds afterwards. */
+#include "calls.h"
 #include "check.h"
 #include "lachsbrille.h"
 #include "pools.h"
@@ -33,6 +34,17 @@ static void left(const void *lent, size_t size)
     }
 }
 
+/* Whether a part of a result is 0, as all of it but the number is after a refusal. */
+static void zero(const void *part, size_t size)
+{
+    const uint8_t *bytes = (const uint8_t *)part;
+    size_t at;
+
+    for (at = 0; at < size; at++) {
+        EQUAL(bytes[at], 0);
+    }
+}
+
 /* ---- Pools: every call with a table refuses a pool alike ---- */
 
 static lachsbrille_record table[ENTRIES];
@@ -55,10 +67,11 @@ static void not_read(const uint8_t *pool, size_t length, size_t entries, uint32_
     REFUSED(lachsbrille_text(pool, length, table, entries, 0, &from, &to), name);
     EQUAL(from, 0);
     EQUAL(to, 0);
-    labels = lachsbrille_labels(pool, length, table, entries);
+    labels = labels_of(pool, length, table, entries);
     REFUSED(labels.number, name);
-    EQUAL(labels.structure[0], 0);
-    EQUAL(labels.localization[6], 0);
+    zero(labels.structure, sizeof labels.structure);
+    zero(labels.localization, sizeof labels.localization);
+    zero(labels.extended, sizeof labels.extended);
     EQUAL(labels.extended_length, 0);
     REFUSED(lachsbrille_judge(pool, length, table, entries, 4, 1, 141, 0, &error), name);
     EQUAL(error, 0);
@@ -67,23 +80,27 @@ static void not_read(const uint8_t *pool, size_t length, size_t entries, uint32_
 }
 
 /* A pool that is sent whole and not activated; the stage that is left is given. */
-static uint32_t not_activated(const uint8_t *pool, size_t length, size_t entries, uint32_t name, size_t place)
+static unsigned not_activated(const uint8_t *pool, size_t length, size_t entries, uint32_t name, size_t place)
 {
     static uint8_t staging[AREA], kept[AREA];
-    lachsbrille_client_session session = lachsbrille_session_new();
-    lachsbrille_client_step step;
+    lachsbrille_session session = lachsbrille_session_new();
+    lachsbrille_step step;
 
     memset(staging, LEFT, sizeof staging);
     memset(kept, LEFT, sizeof kept);
     memset(table, LEFT, sizeof table);
-    session = lachsbrille_session_offer(session, length, staging, AREA, kept, AREA).session;
-    session = lachsbrille_session_transfer(session, pool, length, staging, AREA).session;
-    step = lachsbrille_session_activate(session, staging, AREA, kept, AREA, table, entries);
+    session = offer(session, length, staging, AREA, kept, AREA).session;
+    session = transfer(session, pool, length, staging, AREA).session;
+    step = activate(session, staging, AREA, kept, AREA, table, entries);
     REFUSED(step.number, name);
     EQUAL(step.place, place);
     EQUAL(step.session.kept, 0);
     EQUAL(step.session.active, 0);
+    EQUAL(step.session.announced, step.session.stage == LACHSBRILLE_STAGE_OFFERED ? length : 0);
     EQUAL(step.session.received, step.session.stage == LACHSBRILLE_STAGE_OFFERED ? length : 0);
+    EQUAL(step.record, name == LACHSBRILLE_FAULTY ? 3 : 0);
+    EQUAL(step.rule, name == LACHSBRILLE_FAULTY ? 6 : 0);
+    EQUAL(step.item, name == LACHSBRILLE_FAULTY ? 2 : 0);
     left(kept, sizeof kept);
     if (name != LACHSBRILLE_FAULTY) {
         left(table, sizeof table);
@@ -100,6 +117,7 @@ static void pools(void)
     uint8_t error = 9;
 
     not_read(q, 0, ENTRIES, LACHSBRILLE_EMPTY_POOL, 0);
+    not_read(LACHSBRILLE_NOTHING, 0, ENTRIES, LACHSBRILLE_EMPTY_POOL, 0);
     not_read(pool, sizeof pool, ENTRIES, LACHSBRILLE_LONG_POOL, 0);
     memcpy(pool, q, Q);
     pool[31] = 'X';
@@ -128,7 +146,7 @@ static void pools(void)
     EQUAL(from + to, 0);
     EQUAL(table[2].start, 44);
     memset(table, LEFT, sizeof table);
-    REFUSED(lachsbrille_labels(q, ELEMENT_END, table, ENTRIES).number, LACHSBRILLE_FAULTY);
+    REFUSED(labels_of(q, ELEMENT_END, table, ENTRIES).number, LACHSBRILLE_FAULTY);
     EQUAL(table[2].start, 44);
     memset(table, LEFT, sizeof table);
     REFUSED(lachsbrille_judge(q, ELEMENT_END, table, ENTRIES, 4, 1, 141, 0, &error), LACHSBRILLE_FAULTY);
@@ -143,40 +161,61 @@ static void pools(void)
     EQUAL(from + to, 0);
     EQUAL(table[3].start, 59);
 
+    /* In 16 bits it would be the device's ID. */
+    from = to = 9;
+    REFUSED(lachsbrille_text(q, Q, table, ENTRIES, 65536, &from, &to), LACHSBRILLE_NO_SUCH_ID);
+    EQUAL(from + to, 0);
+
     error = 9;
     memset(table, LEFT, sizeof table);
     REFUSED(lachsbrille_judge(q, 0, table, ENTRIES, 4, LACHSBRILLE_ELEMENT_MOST + 1, 141, 0, &error), LACHSBRILLE_BAD_ELEMENT);
     EQUAL(error, 0);
+    error = 9;
+    REFUSED(lachsbrille_judge(q, Q, table, ENTRIES, 4, 65536 + 1, 141, 0, &error), LACHSBRILLE_BAD_ELEMENT);
+    EQUAL(error, 0);
     left(table, sizeof table);
+
+    /* In 8 bits it would be command 3, which is refused as not settable. */
+    EQUAL(lachsbrille_judge(q, Q, table, ENTRIES, 259, 1, 141, 0, &error), LACHSBRILLE_OK);
+    EQUAL(error, LACHSBRILLE_ERROR_COMMAND);
 }
 
 /* ---- Sessions ---- */
 
+#define STEP_REFUSED(call, session, name) step_refused(__FILE__, __LINE__, #call, call, session, name)
+
+/* A refused call leaves the session as it was given, and has neither a place nor a fault. */
+static void step_refused(const char *file, int line, const char *call, lachsbrille_step step, lachsbrille_session session,
+                         uint32_t name)
+{
+    refused(file, line, call, step.number, name);
+    equal(file, line, call, step.session.announced, session.announced);
+    equal(file, line, call, step.session.received, session.received);
+    equal(file, line, call, step.session.kept, session.kept);
+    equal(file, line, call, step.session.stage, session.stage);
+    equal(file, line, call, step.session.active, session.active);
+    equal(file, line, call, (long long)step.place, 0);
+    equal(file, line, call, step.record, 0);
+    equal(file, line, call, step.rule, 0);
+    equal(file, line, call, step.item, 0);
+}
+
 /* Every session call of a value that can't arise. */
-static void impossible(uint32_t stage, uint32_t active, size_t announced, size_t received, size_t kept_size)
+static void impossible(uint16_t stage, uint16_t active, uint32_t announced, uint32_t received, uint32_t kept_size)
 {
     static uint8_t staging[AREA], kept[AREA];
-    lachsbrille_client_session session = {stage, active, announced, received, kept_size};
-    lachsbrille_client_step steps[6];
-    size_t at;
+    lachsbrille_session session = {
+        .announced = announced, .received = received, .kept = kept_size, .stage = stage, .active = active};
 
     memset(staging, LEFT, sizeof staging);
     memset(kept, LEFT, sizeof kept);
     memset(table, LEFT, sizeof table);
-    steps[0] = lachsbrille_session_offer(session, 10, staging, AREA, kept, AREA);
-    steps[1] = lachsbrille_session_transfer(session, q, 1, staging, AREA);
-    steps[2] = lachsbrille_session_activate(session, staging, AREA, kept, AREA, table, ENTRIES);
-    steps[3] = lachsbrille_session_deactivate(session);
-    steps[4] = lachsbrille_session_delete(session);
-    steps[5] = lachsbrille_session_lost(session);
-    for (at = 0; at < 6; at++) {
-        REFUSED(steps[at].number, LACHSBRILLE_IMPOSSIBLE_SESSION);
-        EQUAL(steps[at].session.stage, stage);
-        EQUAL(steps[at].session.active, active);
-        EQUAL(steps[at].session.announced, announced);
-        EQUAL(steps[at].session.received, received);
-        EQUAL(steps[at].session.kept, kept_size);
-    }
+    STEP_REFUSED(offer(session, 10, staging, AREA, kept, AREA), session, LACHSBRILLE_IMPOSSIBLE_SESSION);
+    STEP_REFUSED(transfer(session, q, 1, staging, AREA), session, LACHSBRILLE_IMPOSSIBLE_SESSION);
+    STEP_REFUSED(activate(session, staging, AREA, kept, AREA, table, ENTRIES), session, LACHSBRILLE_IMPOSSIBLE_SESSION);
+    STEP_REFUSED(deactivate(session), session, LACHSBRILLE_IMPOSSIBLE_SESSION);
+    STEP_REFUSED(delete_pool(session), session, LACHSBRILLE_IMPOSSIBLE_SESSION);
+    STEP_REFUSED(lost(session), session, LACHSBRILLE_IMPOSSIBLE_SESSION);
     left(staging, sizeof staging);
     left(kept, sizeof kept);
     left(table, sizeof table);
@@ -185,54 +224,55 @@ static void impossible(uint32_t stage, uint32_t active, size_t announced, size_t
 static void sessions(void)
 {
     static uint8_t staging[AREA], kept[AREA];
-    const lachsbrille_client_session none = lachsbrille_session_new();
-    const lachsbrille_client_session offered = {LACHSBRILLE_STAGE_OFFERED, 0, Q, 0, 0};
-    const lachsbrille_client_session keeping = {LACHSBRILLE_STAGE_NONE, 0, 0, 0, Q};
-    lachsbrille_client_session session;
-    lachsbrille_client_step step;
+    const lachsbrille_session none = lachsbrille_session_new();
+    const lachsbrille_session offered = {.announced = Q, .kept = 9, .stage = LACHSBRILLE_STAGE_OFFERED, .active = 1};
+    const lachsbrille_session keeping = {.kept = Q};
+    lachsbrille_session session;
 
     memset(staging, LEFT, sizeof staging);
     memset(kept, LEFT, sizeof kept);
     memset(table, LEFT, sizeof table);
-    REFUSED(lachsbrille_session_offer(none, 0, staging, AREA, kept, AREA).number, LACHSBRILLE_BAD_SIZE);
-    REFUSED(lachsbrille_session_offer(none, LACHSBRILLE_POOL_MOST + 1, staging, AREA, kept, AREA).number,
-            LACHSBRILLE_BAD_SIZE);
-    REFUSED(lachsbrille_session_offer(none, AREA, staging, AREA - 1, kept, AREA).number, LACHSBRILLE_SHORT_AREA);
-    REFUSED(lachsbrille_session_offer(none, AREA, staging, AREA, kept, AREA - 1).number, LACHSBRILLE_SHORT_AREA);
+    STEP_REFUSED(offer(none, 0, staging, AREA, kept, AREA), none, LACHSBRILLE_BAD_SIZE);
+    STEP_REFUSED(offer(none, LACHSBRILLE_POOL_MOST + 1, staging, AREA, kept, AREA), none, LACHSBRILLE_BAD_SIZE);
+    STEP_REFUSED(offer(offered, AREA, staging, AREA - 1, kept, AREA), offered, LACHSBRILLE_SHORT_AREA);
+    STEP_REFUSED(offer(offered, AREA, staging, AREA, kept, AREA - 1), offered, LACHSBRILLE_SHORT_AREA);
 
-    REFUSED(lachsbrille_session_transfer(none, q, 1, staging, AREA).number, LACHSBRILLE_NOTHING_OFFERED);
-    REFUSED(lachsbrille_session_transfer(offered, q, 0, staging, AREA).number, LACHSBRILLE_BAD_PIECE);
-    step = lachsbrille_session_transfer(offered, q, Q, staging, Q - 1);
-    REFUSED(step.number, LACHSBRILLE_SHORT_AREA);
-    EQUAL(step.session.stage, LACHSBRILLE_STAGE_OFFERED);
-    EQUAL(step.session.received, 0);
+    STEP_REFUSED(transfer(none, q, 1, staging, AREA), none, LACHSBRILLE_NOTHING_OFFERED);
+    STEP_REFUSED(transfer(offered, q, 0, staging, AREA), offered, LACHSBRILLE_BAD_PIECE);
+    STEP_REFUSED(transfer(offered, LACHSBRILLE_NOTHING, 0, staging, AREA), offered, LACHSBRILLE_BAD_PIECE);
+    STEP_REFUSED(transfer(offered, q, Q, staging, Q - 1), offered, LACHSBRILLE_SHORT_AREA);
     session = offered;
     session.received = Q - 1;
-    REFUSED(lachsbrille_session_transfer(session, q, 2, staging, AREA).number, LACHSBRILLE_BAD_PIECE);
+    STEP_REFUSED(transfer(session, q, 2, staging, AREA), session, LACHSBRILLE_BAD_PIECE);
 
-    REFUSED(lachsbrille_session_activate(none, staging, AREA, kept, AREA, table, ENTRIES).number,
-            LACHSBRILLE_NOTHING_OFFERED);
-    REFUSED(lachsbrille_session_activate(keeping, staging, 0, kept, Q - 1, table, 0).number, LACHSBRILLE_SHORT_AREA);
-    step = lachsbrille_session_activate(session, staging, AREA, kept, AREA, table, ENTRIES);
-    REFUSED(step.number, LACHSBRILLE_STOPPED_EARLY);
-    EQUAL(step.session.stage, LACHSBRILLE_STAGE_OFFERED);
-    EQUAL(step.session.received, Q - 1);
+    STEP_REFUSED(activate(none, staging, AREA, kept, AREA, table, ENTRIES), none, LACHSBRILLE_NOTHING_OFFERED);
+    STEP_REFUSED(activate(keeping, LACHSBRILLE_NOTHING, 0, kept, Q - 1, LACHSBRILLE_NOTHING, 0), keeping,
+                 LACHSBRILLE_SHORT_AREA);
+    STEP_REFUSED(activate(session, staging, AREA, kept, AREA, table, ENTRIES), session, LACHSBRILLE_STOPPED_EARLY);
     session.received = Q;
-    REFUSED(lachsbrille_session_activate(session, staging, Q - 1, kept, AREA, table, ENTRIES).number, LACHSBRILLE_SHORT_AREA);
-    REFUSED(lachsbrille_session_activate(session, staging, AREA, kept, Q - 1, table, ENTRIES).number, LACHSBRILLE_SHORT_AREA);
-    REFUSED(lachsbrille_session_deactivate(keeping).number, LACHSBRILLE_NOT_ACTIVE);
+    STEP_REFUSED(activate(session, staging, Q - 1, kept, AREA, table, ENTRIES), session, LACHSBRILLE_SHORT_AREA);
+    STEP_REFUSED(activate(session, staging, AREA, kept, Q - 1, table, ENTRIES), session, LACHSBRILLE_SHORT_AREA);
+    STEP_REFUSED(deactivate(keeping), keeping, LACHSBRILLE_NOT_ACTIVE);
     left(staging, sizeof staging);
     left(kept, sizeof kept);
     left(table, sizeof table);
 
     impossible(2, 0, 0, 0, 0);
+    impossible(256, 0, 0, 0, 0);
+    impossible(65535, 0, 0, 0, 0);
     impossible(0, 2, 0, 0, 1);
+    impossible(0, 257, 0, 0, 1);
+    impossible(0, 65535, 0, 0, 1);
     impossible(0, 0, LACHSBRILLE_POOL_MOST + 1, 0, 0);
     impossible(0, 0, 0, 0, LACHSBRILLE_POOL_MOST + 1);
     impossible(1, 0, 0, 0, 0);
     impossible(1, 0, 5, 6, 0);
     impossible(0, 1, 0, 0, 0);
     impossible(0, 0, 1, 0, 0);
+    impossible(0, 0, 0, 1, 0);
+    impossible(1, 0, 65536 + Q, 0, 0);
+    impossible(1, 0, Q, 65536, 0);
+    impossible(0, 1, 0, 0, 65536 + Q);
 }
 
 /* ---- Messages and displayed values ---- */
@@ -268,12 +308,18 @@ static void exchange(void)
     }
     REFUSED(lachsbrille_message_write_value(to, 8, LACHSBRILLE_ACKNOWLEDGE, 1, 1, 1), LACHSBRILLE_BAD_COMMAND);
     REFUSED(lachsbrille_message_write_value(to, 8, 16 + LACHSBRILLE_VALUE, 1, 1, 1), LACHSBRILLE_BAD_COMMAND);
+    REFUSED(lachsbrille_message_write_value(to, 8, 256 + LACHSBRILLE_VALUE, 1, 1, 1), LACHSBRILLE_BAD_COMMAND);
+    REFUSED(lachsbrille_message_write_value(to, 8, 65536 + LACHSBRILLE_VALUE, 1, 1, 1), LACHSBRILLE_BAD_COMMAND);
     REFUSED(lachsbrille_message_write_value(to, 7, LACHSBRILLE_VALUE, LACHSBRILLE_ELEMENT_MOST + 1, 1, 1),
             LACHSBRILLE_BAD_ELEMENT);
+    REFUSED(lachsbrille_message_write_value(to, 8, LACHSBRILLE_VALUE, 65536 + 18, 1, 1), LACHSBRILLE_BAD_ELEMENT);
     REFUSED(lachsbrille_message_write_value(to, 7, LACHSBRILLE_VALUE, LACHSBRILLE_ELEMENT_MOST, 1, 1),
             LACHSBRILLE_NO_ROOM_FOR_MESSAGE);
     REFUSED(lachsbrille_message_write_acknowledge(to, 7, LACHSBRILLE_ELEMENT_MOST + 1, 1, 1, 1), LACHSBRILLE_BAD_ELEMENT);
+    REFUSED(lachsbrille_message_write_acknowledge(to, 8, 65536 + 18, 1, 1, 1), LACHSBRILLE_BAD_ELEMENT);
     REFUSED(lachsbrille_message_write_acknowledge(to, 7, 1, 1, 1, 16), LACHSBRILLE_BAD_ELEMENT);
+    REFUSED(lachsbrille_message_write_acknowledge(to, 8, 1, 1, 1, 256), LACHSBRILLE_BAD_ELEMENT);
+    REFUSED(lachsbrille_message_write_acknowledge(to, 8, 1, 1, 1, 65536 + 3), LACHSBRILLE_BAD_ELEMENT);
     REFUSED(lachsbrille_message_write_acknowledge(to, 7, 1, 1, 1, 15), LACHSBRILLE_NO_ROOM_FOR_MESSAGE);
     left(to, sizeof to);
 
@@ -281,6 +327,9 @@ static void exchange(void)
     EQUAL(result == 0, 1);
     result = 9;
     REFUSED(lachsbrille_displayed(1, 1, -0.5f, 0, &result), LACHSBRILLE_BAD_PRESENTATION);
+    EQUAL(result == 0, 1);
+    result = 9;
+    REFUSED(lachsbrille_displayed(1, 1, 0.5f, 256, &result), LACHSBRILLE_BAD_PRESENTATION);
     EQUAL(result == 0, 1);
 }
 
@@ -302,19 +351,27 @@ static void log_record_not_read(const uint8_t *sound, const uint8_t *bytes, size
 
     memset(ordinals, LEFT, sizeof ordinals);
     memset(values, LEFT, sizeof values);
-    record = lachsbrille_log_read_record(bytes, length, LAYOUT, LOGGED, ordinals, 3, values, 3);
+    record = read_log_record(bytes, length, LAYOUT, LOGGED, ordinals, 3, values, 3);
     REFUSED(record.number, name);
     EQUAL(record.length, 0);
     EQUAL(record.count, 0);
     EQUAL(record.fields.time, 0);
+    EQUAL(record.fields.days, 0);
     EQUAL(record.fields.north, 0);
+    EQUAL(record.fields.east, 0);
+    EQUAL(record.fields.up, 0);
+    EQUAL(record.fields.status, 0);
+    EQUAL(record.fields.pdop, 0);
+    EQUAL(record.fields.hdop, 0);
+    EQUAL(record.fields.satellites, 0);
+    EQUAL(record.fields.gps_time, 0);
     EQUAL(record.fields.gps_date, 0);
     left(ordinals, sizeof ordinals);
     left(values, sizeof values);
 
     memcpy(log, sound, LENGTH);
     memcpy(log + LENGTH, bytes, length);
-    outcome = lachsbrille_log_read(log, LENGTH + length, LAYOUT, LOGGED);
+    outcome = read_log(log, LENGTH + length, LAYOUT, LOGGED);
     REFUSED(outcome.number, name);
     EQUAL(outcome.count, 0);
     EQUAL(outcome.start, LENGTH);
@@ -328,7 +385,7 @@ static void log_record_not_written(lachsbrille_log_fields fields, const uint8_t 
     lachsbrille_log_written written;
 
     memset(to, LEFT, sizeof to);
-    written = lachsbrille_log_write_record(to, LENGTH, LAYOUT, fields, LOGGED, ordinals, 2, values, 2, 2);
+    written = lachsbrille_log_write_record(to, LENGTH, LAYOUT, &fields, LOGGED, ordinals, 2, values, 2, 2);
     REFUSED(written.number, name);
     EQUAL(written.length, 0);
     left(to, sizeof to);
@@ -349,8 +406,8 @@ static void logs(void)
     int cut;
 
     /* The sound record is written and read, so each change below is what is refused. */
-    EQUAL(lachsbrille_log_write_record(bytes, LENGTH, LAYOUT, sound, LOGGED, ordinals, 2, values, 2, 2).length, LENGTH);
-    EQUAL(lachsbrille_log_read(bytes, LENGTH, LAYOUT, LOGGED).count, 1);
+    EQUAL(lachsbrille_log_write_record(bytes, LENGTH, LAYOUT, &sound, LOGGED, ordinals, 2, values, 2, 2).length, LENGTH);
+    EQUAL(read_log(bytes, LENGTH, LAYOUT, LOGGED).count, 1);
 
     for (cut = 1; cut < LENGTH; cut++) {
         log_record_not_read(bytes, bytes, (size_t)cut, LACHSBRILLE_CUT_LOG_RECORD);
@@ -391,35 +448,43 @@ static void logs(void)
 
     memset(read_ordinals, LEFT, sizeof read_ordinals);
     memset(read_values, LEFT, sizeof read_values);
-    REFUSED(lachsbrille_log_read_record(bytes, LENGTH, LAYOUT, LOGGED, read_ordinals, 1, read_values, 2).number,
+    REFUSED(read_log_record(bytes, LENGTH, LAYOUT, LOGGED, read_ordinals, 1, read_values, 2).number,
             LACHSBRILLE_NO_ROOM_FOR_LOG_RECORD);
-    REFUSED(lachsbrille_log_read_record(bytes, LENGTH, LAYOUT, LOGGED, read_ordinals, 2, read_values, 1).number,
+    REFUSED(read_log_record(bytes, LENGTH, LAYOUT, LOGGED, read_ordinals, 2, read_values, 1).number,
             LACHSBRILLE_NO_ROOM_FOR_LOG_RECORD);
-    REFUSED(lachsbrille_log_read_record(bytes, LENGTH, LAYOUT | 0x200, LOGGED, read_ordinals, 2, read_values, 2).number,
+    REFUSED(read_log_record(bytes, LENGTH, LAYOUT | 0x200, LOGGED, read_ordinals, 2, read_values, 2).number,
+            LACHSBRILLE_BAD_LAYOUT);
+    REFUSED(read_log_record(bytes, LENGTH, LAYOUT | 0x10000, LOGGED, read_ordinals, 2, read_values, 2).number,
             LACHSBRILLE_BAD_LAYOUT);
     left(read_ordinals, sizeof read_ordinals);
     left(read_values, sizeof read_values);
 
     memset(changed, LEFT, sizeof changed);
-    REFUSED(lachsbrille_log_write_record(changed, LENGTH - 1, LAYOUT, sound, LOGGED, ordinals, 2, values, 2, 2).number,
+    REFUSED(lachsbrille_log_write_record(changed, LENGTH - 1, LAYOUT, &sound, LOGGED, ordinals, 2, values, 2, 2).number,
             LACHSBRILLE_NO_ROOM_FOR_LOG_RECORD);
-    REFUSED(lachsbrille_log_write_record(changed, LENGTH, 0x200, sound, LOGGED, ordinals, 2, values, 2, 2).number,
+    REFUSED(lachsbrille_log_write_record(changed, LENGTH, 0x200, &sound, LOGGED, ordinals, 2, values, 2, 2).number,
             LACHSBRILLE_BAD_LAYOUT);
-    REFUSED(lachsbrille_log_write_record(changed, LENGTH, LAYOUT, sound, LOGGED, ordinals, 1, values, 2, 2).number,
+    REFUSED(lachsbrille_log_write_record(changed, LENGTH, LAYOUT | 0x10000, &sound, LOGGED, ordinals, 2, values, 2, 2).number,
+            LACHSBRILLE_BAD_LAYOUT);
+    REFUSED(lachsbrille_log_write_record(changed, LENGTH, LAYOUT, &sound, LOGGED, ordinals, 1, values, 2, 2).number,
             LACHSBRILLE_MANY_LOG_VALUES);
-    REFUSED(lachsbrille_log_write_record(changed, LENGTH, LAYOUT, sound, LOGGED, ordinals, 2, values, 1, 2).number,
+    REFUSED(lachsbrille_log_write_record(changed, LENGTH, LAYOUT, &sound, LOGGED, ordinals, 2, values, 1, 2).number,
             LACHSBRILLE_MANY_LOG_VALUES);
-    REFUSED(lachsbrille_log_write_record(changed, LENGTH, LAYOUT, sound, LOGGED, many, 256, values, 256, 256).number,
+    REFUSED(lachsbrille_log_write_record(changed, LENGTH, LAYOUT, &sound, LOGGED, many, 256, values, 256, 256).number,
             LACHSBRILLE_MANY_LOG_VALUES);
     left(changed, sizeof changed);
 
     marks = lachsbrille_log_optional_fields(0x8000);
     REFUSED(marks.number, LACHSBRILLE_BAD_LAYOUT);
     EQUAL(marks.count, 0);
-    outcome = lachsbrille_log_read(bytes, LENGTH, 0x200, LOGGED);
+    marks = lachsbrille_log_optional_fields(0x10001);
+    REFUSED(marks.number, LACHSBRILLE_BAD_LAYOUT);
+    EQUAL(marks.count, 0);
+    outcome = read_log(bytes, LENGTH, 0x200, LOGGED);
     REFUSED(outcome.number, LACHSBRILLE_BAD_LAYOUT);
     EQUAL(outcome.start, 0);
     EQUAL(outcome.count, 0);
+    REFUSED(read_log(bytes, LENGTH, LAYOUT | 0x10000, LOGGED).number, LACHSBRILLE_BAD_LAYOUT);
 }
 
 /* The longest record has the length that the header names. */
@@ -430,7 +495,7 @@ static void longest_log_record(void)
     static const int32_t values[LACHSBRILLE_LOG_VALUES_MOST] = {0};
     static uint8_t to[LACHSBRILLE_LOG_RECORD_MOST];
     lachsbrille_log_written written =
-        lachsbrille_log_write_record(to, sizeof to, LACHSBRILLE_LAYOUT_ALL, fields, 1, ordinals, sizeof ordinals, values,
+        lachsbrille_log_write_record(to, sizeof to, LACHSBRILLE_LAYOUT_ALL, &fields, 1, ordinals, sizeof ordinals, values,
                                      LACHSBRILLE_LOG_VALUES_MOST, LACHSBRILLE_LOG_VALUES_MOST);
 
     EQUAL(written.number, LACHSBRILLE_OK);

@@ -33,6 +33,18 @@ static const int32_t values[LACHSBRILLE_LOG_VALUES_MOST];
 static int32_t read_values[LACHSBRILLE_LOG_VALUES_MOST];
 static double shown;
 
+/* Results and what else a caller would have on its own stack: it is not the calls'. */
+static lachsbrille_device_labels device_labels;
+static lachsbrille_step step;
+static lachsbrille_device device;
+static lachsbrille_element element;
+static lachsbrille_process_data data;
+static lachsbrille_property property;
+static lachsbrille_presentation presentation;
+static const lachsbrille_log_fields fields;
+static lachsbrille_log_record log_record;
+static lachsbrille_log_outcome log_outcome;
+
 /* ---- the calls */
 
 static void nothing(void)
@@ -57,7 +69,7 @@ static void text(void)
 
 static void labels(void)
 {
-    (void)lachsbrille_labels(pool, pool_length, table, table_length);
+    lachsbrille_labels(&device_labels, pool, pool_length, table, table_length);
 }
 
 static void judge(void)
@@ -68,32 +80,37 @@ static void judge(void)
 
 static void activate(void)
 {
-    lachsbrille_client_session session = {LACHSBRILLE_STAGE_OFFERED, 0, pool_length, pool_length, 0};
-    (void)lachsbrille_session_activate(session, pool, sizeof area, area, sizeof area, table, table_length);
+    lachsbrille_session session = {
+        .announced = (uint32_t)pool_length, .received = (uint32_t)pool_length, .stage = LACHSBRILLE_STAGE_OFFERED};
+    lachsbrille_session_activate(&step, session, pool, sizeof area, area, sizeof area, table, table_length);
 }
 
 /* The functions without a table, one after the other. */
 static void others(void)
 {
-    const lachsbrille_log_fields fields = {.time = 0};
-    lachsbrille_client_session session = lachsbrille_session_new();
-
+    (void)lachsbrille_version();
     (void)lachsbrille_text_is_sound(pool, pool_length);
-    session = lachsbrille_session_offer(session, Q, area, Q, other_area, Q).session;
-    session = lachsbrille_session_transfer(session, q, Q, area, Q).session;
-    (void)lachsbrille_session_deactivate(session);
-    (void)lachsbrille_session_lost(session);
-    (void)lachsbrille_session_delete(session);
+    lachsbrille_read_device(&device, pool, pool_length, 0);
+    lachsbrille_read_element(&element, pool, pool_length, 0);
+    (void)lachsbrille_read_entry(pool, pool_length, 0, 0);
+    lachsbrille_read_process_data(&data, pool, pool_length, 0);
+    lachsbrille_read_property(&property, pool, pool_length, 0);
+    lachsbrille_read_presentation(&presentation, pool, pool_length, 0);
+    lachsbrille_session_offer(&step, lachsbrille_session_new(), Q, area, Q, other_area, Q);
+    lachsbrille_session_transfer(&step, step.session, q, Q, area, Q);
+    lachsbrille_session_deactivate(&step, step.session);
+    lachsbrille_session_lost(&step, step.session);
+    lachsbrille_session_delete(&step, step.session);
     (void)lachsbrille_message_write_value(message, sizeof message, 3, 1, 1, 1);
     (void)lachsbrille_message_write_acknowledge(message, sizeof message, 1, 1, 1, 1);
     (void)lachsbrille_message_read(message, sizeof message);
     (void)lachsbrille_displayed(1, 1, 1.0f, 0, &shown);
     (void)lachsbrille_log_optional_fields(LACHSBRILLE_LAYOUT_ALL);
-    (void)lachsbrille_log_write_record(record, sizeof record, LACHSBRILLE_LAYOUT_ALL, fields, 1, ordinals, sizeof ordinals,
+    (void)lachsbrille_log_write_record(record, sizeof record, LACHSBRILLE_LAYOUT_ALL, &fields, 1, ordinals, sizeof ordinals,
                                        values, sizeof ordinals, sizeof ordinals);
-    (void)lachsbrille_log_read_record(record, sizeof record, LACHSBRILLE_LAYOUT_ALL, 1, read_ordinals, sizeof read_ordinals,
-                                      read_values, sizeof read_ordinals);
-    (void)lachsbrille_log_read(record, sizeof record, LACHSBRILLE_LAYOUT_ALL, 1);
+    lachsbrille_log_read_record(&log_record, record, sizeof record, LACHSBRILLE_LAYOUT_ALL, 1, read_ordinals,
+                                sizeof read_ordinals, read_values, sizeof read_ordinals);
+    lachsbrille_log_read(&log_outcome, record, sizeof record, LACHSBRILLE_LAYOUT_ALL, 1);
 }
 
 /* By the names of the header's rows, with the most that was measured. */

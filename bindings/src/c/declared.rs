@@ -1,12 +1,15 @@
 //! The C functions as the static library exports them. A slice crosses as its
-//! pointer and its length; structs cross by value, by the C ABI.
+//! pointer and its length, a result of over 16 bytes through `out`, and a
+//! smaller struct by value, by the C ABI.
 
 use super::structs::{
-    ClientSession, ClientStep, DeviceLabels, LogFields, LogMarks, LogOutcome, LogRecord,
-    LogWritten, MessageFields, Record,
+    Device, DeviceLabels, Element, LogFields, LogMarks, LogOutcome, LogRecord, LogWritten,
+    MessageFields, Presentation, ProcessData, Property, Record, Session, Step,
 };
 
 extern "C" {
+    pub fn lachsbrille_version() -> u32;
+
     pub fn lachsbrille_read(
         pool: *const u8,
         pool_length: usize,
@@ -29,70 +32,106 @@ extern "C" {
         pool_length: usize,
         table: *mut Record,
         table_length: usize,
-        id: u16,
+        id: u32,
         from: *mut usize,
         to: *mut usize,
     ) -> u32;
     pub fn lachsbrille_labels(
+        out: *mut DeviceLabels,
         pool: *const u8,
         pool_length: usize,
         table: *mut Record,
         table_length: usize,
-    ) -> DeviceLabels;
+    );
 
-    pub fn lachsbrille_session_new() -> ClientSession;
+    pub fn lachsbrille_read_device(
+        out: *mut Device,
+        pool: *const u8,
+        pool_length: usize,
+        start: u16,
+    );
+    pub fn lachsbrille_read_element(
+        out: *mut Element,
+        pool: *const u8,
+        pool_length: usize,
+        start: u16,
+    );
+    pub fn lachsbrille_read_entry(pool: *const u8, pool_length: usize, start: u16, n: u16) -> u16;
+    pub fn lachsbrille_read_process_data(
+        out: *mut ProcessData,
+        pool: *const u8,
+        pool_length: usize,
+        start: u16,
+    );
+    pub fn lachsbrille_read_property(
+        out: *mut Property,
+        pool: *const u8,
+        pool_length: usize,
+        start: u16,
+    );
+    pub fn lachsbrille_read_presentation(
+        out: *mut Presentation,
+        pool: *const u8,
+        pool_length: usize,
+        start: u16,
+    );
+
+    pub fn lachsbrille_session_new() -> Session;
     pub fn lachsbrille_session_offer(
-        session: ClientSession,
+        out: *mut Step,
+        session: Session,
         size: usize,
         staging: *const u8,
         staging_length: usize,
         kept: *const u8,
         kept_length: usize,
-    ) -> ClientStep;
+    );
     pub fn lachsbrille_session_transfer(
-        session: ClientSession,
+        out: *mut Step,
+        session: Session,
         piece: *const u8,
         piece_length: usize,
         staging: *mut u8,
         staging_length: usize,
-    ) -> ClientStep;
+    );
     pub fn lachsbrille_session_activate(
-        session: ClientSession,
+        out: *mut Step,
+        session: Session,
         staging: *const u8,
         staging_length: usize,
         kept: *mut u8,
         kept_length: usize,
         table: *mut Record,
         table_length: usize,
-    ) -> ClientStep;
-    pub fn lachsbrille_session_deactivate(session: ClientSession) -> ClientStep;
-    pub fn lachsbrille_session_delete(session: ClientSession) -> ClientStep;
-    pub fn lachsbrille_session_lost(session: ClientSession) -> ClientStep;
+    );
+    pub fn lachsbrille_session_deactivate(out: *mut Step, session: Session);
+    pub fn lachsbrille_session_delete(out: *mut Step, session: Session);
+    pub fn lachsbrille_session_lost(out: *mut Step, session: Session);
 
     pub fn lachsbrille_message_read(bytes: *const u8, bytes_length: usize) -> MessageFields;
     pub fn lachsbrille_message_write_value(
         to: *mut u8,
         to_length: usize,
-        command: u8,
-        element: u16,
+        command: u32,
+        element: u32,
         ddi: u16,
         value: i32,
     ) -> u32;
     pub fn lachsbrille_message_write_acknowledge(
         to: *mut u8,
         to_length: usize,
-        element: u16,
+        element: u32,
         ddi: u16,
         errors: u8,
-        answered: u8,
+        answered: u32,
     ) -> u32;
     pub fn lachsbrille_judge(
         pool: *const u8,
         pool_length: usize,
         table: *mut Record,
         table_length: usize,
-        command: u8,
-        element: u16,
+        command: u32,
+        element: u32,
         ddi: u16,
         value: i32,
         error: *mut u8,
@@ -101,26 +140,27 @@ extern "C" {
         value: i32,
         offset: i32,
         scale: f32,
-        decimals: u8,
+        decimals: u32,
         result: *mut f64,
     ) -> u32;
 
-    pub fn lachsbrille_log_optional_fields(layout: u16) -> LogMarks;
+    pub fn lachsbrille_log_optional_fields(layout: u32) -> LogMarks;
     pub fn lachsbrille_log_read_record(
+        out: *mut LogRecord,
         bytes: *const u8,
         bytes_length: usize,
-        layout: u16,
+        layout: u32,
         logged: usize,
         ordinals: *mut u8,
         ordinals_length: usize,
         values: *mut i32,
         values_length: usize,
-    ) -> LogRecord;
+    );
     pub fn lachsbrille_log_write_record(
         to: *mut u8,
         to_length: usize,
-        layout: u16,
-        fields: LogFields,
+        layout: u32,
+        fields: *const LogFields,
         logged: usize,
         ordinals: *const u8,
         ordinals_length: usize,
@@ -129,9 +169,10 @@ extern "C" {
         count: usize,
     ) -> LogWritten;
     pub fn lachsbrille_log_read(
+        out: *mut LogOutcome,
         bytes: *const u8,
         bytes_length: usize,
-        layout: u16,
+        layout: u32,
         logged: usize,
-    ) -> LogOutcome;
+    );
 }

@@ -16,7 +16,7 @@ pub fn message_read(bytes: &[u8]) -> MessageFields {
 
 /// Writes a value message into the first eight bytes.
 #[inline]
-pub fn message_write_value(to: &mut [u8], command: u8, element: u16, ddi: u16, value: i32) -> u32 {
+pub fn message_write_value(to: &mut [u8], command: u32, element: u32, ddi: u16, value: i32) -> u32 {
     // SAFETY: as for reading.
     unsafe {
         lachsbrille_message_write_value(to.as_mut_ptr(), to.len(), command, element, ddi, value)
@@ -27,10 +27,10 @@ pub fn message_write_value(to: &mut [u8], command: u8, element: u16, ddi: u16, v
 #[inline]
 pub fn message_write_acknowledge(
     to: &mut [u8],
-    element: u16,
+    element: u32,
     ddi: u16,
     errors: u8,
-    answered: u8,
+    answered: u32,
 ) -> u32 {
     // SAFETY: as for reading.
     unsafe {
@@ -51,8 +51,8 @@ pub fn message_write_acknowledge(
 pub fn judge(
     pool: &[u8],
     table: &mut [Record],
-    command: u8,
-    element: u16,
+    command: u32,
+    element: u32,
     ddi: u16,
     value: i32,
     error: &mut u8,
@@ -76,7 +76,7 @@ pub fn judge(
 
 /// Puts the displayed value into `result`, 0 where the call is refused.
 #[inline]
-pub fn displayed(value: i32, offset: i32, scale: f32, decimals: u8, result: &mut f64) -> u32 {
+pub fn displayed(value: i32, offset: i32, scale: f32, decimals: u32, result: &mut f64) -> u32 {
     // SAFETY: the result is live for the whole call.
     unsafe { lachsbrille_displayed(value, offset, scale, decimals, result) }
 }

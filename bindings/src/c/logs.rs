@@ -8,7 +8,7 @@ use super::structs::{LogFields, LogMarks, LogOutcome, LogRecord, LogWritten};
 
 /// How many optional fields a layout marks.
 #[inline]
-pub fn log_optional_fields(layout: u16) -> LogMarks {
+pub fn log_optional_fields(layout: u32) -> LogMarks {
     // SAFETY: the function takes and gives numbers.
     unsafe { lachsbrille_log_optional_fields(layout) }
 }
@@ -17,16 +17,18 @@ pub fn log_optional_fields(layout: u16) -> LogMarks {
 /// of log values.
 #[inline]
 pub fn log_read_record(
+    out: &mut LogRecord,
     bytes: &[u8],
-    layout: u16,
+    layout: u32,
     logged: usize,
     ordinals: &mut [u8],
     values: &mut [i32],
-) -> LogRecord {
-    // SAFETY: the three areas are live and apart for the whole call, and the
+) {
+    // SAFETY: the areas and the result are live and apart for the whole call, and the
     // pointer of an empty slice is not null.
     unsafe {
         lachsbrille_log_read_record(
+            out,
             bytes.as_ptr(),
             bytes.len(),
             layout,
@@ -43,14 +45,14 @@ pub fn log_read_record(
 #[inline]
 pub fn log_write_record(
     to: &mut [u8],
-    layout: u16,
-    fields: LogFields,
+    layout: u32,
+    fields: &LogFields,
     logged: usize,
     ordinals: &[u8],
     values: &[i32],
     count: usize,
 ) -> LogWritten {
-    // SAFETY: as for reading.
+    // SAFETY: as for reading; the fields are read only.
     unsafe {
         lachsbrille_log_write_record(
             to.as_mut_ptr(),
@@ -69,8 +71,8 @@ pub fn log_write_record(
 
 /// Reads the records of a log to its end.
 #[inline]
-pub fn log_read(bytes: &[u8], layout: u16, logged: usize) -> LogOutcome {
-    // SAFETY: the bytes are live for the whole call, and the pointer of an
-    // empty slice is not null.
-    unsafe { lachsbrille_log_read(bytes.as_ptr(), bytes.len(), layout, logged) }
+pub fn log_read(out: &mut LogOutcome, bytes: &[u8], layout: u32, logged: usize) {
+    // SAFETY: bytes and result are live and apart for the whole call, and the
+    // pointer of an empty slice is not null.
+    unsafe { lachsbrille_log_read(out, bytes.as_ptr(), bytes.len(), layout, logged) }
 }

@@ -52,7 +52,7 @@ pub fn text_is_sound(text: &[u8]) -> bool {
 /// Where the text of the first record with this ID stands in the pool; both
 /// places are 0 after a refusal.
 #[inline]
-pub fn text(pool: &[u8], table: &mut [Record], id: u16, from: &mut usize, to: &mut usize) -> u32 {
+pub fn text(pool: &[u8], table: &mut [Record], id: u32, from: &mut usize, to: &mut usize) -> u32 {
     // SAFETY: as for reading; both places are areas of their own.
     unsafe {
         lachsbrille_text(
@@ -69,7 +69,15 @@ pub fn text(pool: &[u8], table: &mut [Record], id: u16, from: &mut usize, to: &m
 
 /// The labels of the device.
 #[inline]
-pub fn labels(pool: &[u8], table: &mut [Record]) -> DeviceLabels {
-    // SAFETY: as for reading.
-    unsafe { lachsbrille_labels(pool.as_ptr(), pool.len(), table.as_mut_ptr(), table.len()) }
+pub fn labels(out: &mut DeviceLabels, pool: &[u8], table: &mut [Record]) {
+    // SAFETY: as for reading; the result is an area of its own.
+    unsafe {
+        lachsbrille_labels(
+            out,
+            pool.as_ptr(),
+            pool.len(),
+            table.as_mut_ptr(),
+            table.len(),
+        )
+    }
 }

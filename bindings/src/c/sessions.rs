@@ -5,27 +5,23 @@ use super::declared::{
     lachsbrille_session_lost, lachsbrille_session_new, lachsbrille_session_offer,
     lachsbrille_session_transfer,
 };
-use super::structs::{ClientSession, ClientStep, Record};
+use super::structs::{Record, Session, Step};
 
 /// A new session: nothing offered, kept or active.
 #[inline]
-pub fn session_new() -> ClientSession {
+pub fn session_new() -> Session {
     // SAFETY: the function takes nothing and gives numbers.
     unsafe { lachsbrille_session_new() }
 }
 
 /// Announces the size of a pool. Of the areas only the lengths matter.
 #[inline]
-pub fn session_offer(
-    session: ClientSession,
-    size: usize,
-    staging: &[u8],
-    kept: &[u8],
-) -> ClientStep {
-    // SAFETY: both areas are live for the whole call, and the pointer of an
-    // empty slice is not null. Neither is written.
+pub fn session_offer(out: &mut Step, session: Session, size: usize, staging: &[u8], kept: &[u8]) {
+    // SAFETY: both areas and the result are live for the whole call, and the
+    // pointer of an empty slice is not null. Neither area is written.
     unsafe {
         lachsbrille_session_offer(
+            out,
             session,
             size,
             staging.as_ptr(),
@@ -38,10 +34,11 @@ pub fn session_offer(
 
 /// Takes a piece into staging.
 #[inline]
-pub fn session_transfer(session: ClientSession, piece: &[u8], staging: &mut [u8]) -> ClientStep {
+pub fn session_transfer(out: &mut Step, session: Session, piece: &[u8], staging: &mut [u8]) {
     // SAFETY: as for an offer; piece and staging are apart.
     unsafe {
         lachsbrille_session_transfer(
+            out,
             session,
             piece.as_ptr(),
             piece.len(),
@@ -54,14 +51,16 @@ pub fn session_transfer(session: ClientSession, piece: &[u8], staging: &mut [u8]
 /// Activates the pool that is offered, or else the one that is kept.
 #[inline]
 pub fn session_activate(
-    session: ClientSession,
+    out: &mut Step,
+    session: Session,
     staging: &[u8],
     kept: &mut [u8],
     table: &mut [Record],
-) -> ClientStep {
+) {
     // SAFETY: as for an offer; the three areas are apart.
     unsafe {
         lachsbrille_session_activate(
+            out,
             session,
             staging.as_ptr(),
             staging.len(),
@@ -73,22 +72,23 @@ pub fn session_activate(
     }
 }
 
+/// Ends being active.
 #[inline]
-pub fn session_deactivate(session: ClientSession) -> ClientStep {
-    // SAFETY: the function takes and gives numbers.
-    unsafe { lachsbrille_session_deactivate(session) }
+pub fn session_deactivate(out: &mut Step, session: Session) {
+    // SAFETY: the result is live for the whole call.
+    unsafe { lachsbrille_session_deactivate(out, session) }
 }
 
 /// Forgets the pool that is kept, and an offer.
 #[inline]
-pub fn session_delete(session: ClientSession) -> ClientStep {
+pub fn session_delete(out: &mut Step, session: Session) {
     // SAFETY: as for deactivating.
-    unsafe { lachsbrille_session_delete(session) }
+    unsafe { lachsbrille_session_delete(out, session) }
 }
 
 /// The connection is lost.
 #[inline]
-pub fn session_lost(session: ClientSession) -> ClientStep {
+pub fn session_lost(out: &mut Step, session: Session) {
     // SAFETY: as for deactivating.
-    unsafe { lachsbrille_session_lost(session) }
+    unsafe { lachsbrille_session_lost(out, session) }
 }

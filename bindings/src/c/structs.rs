@@ -1,10 +1,11 @@
 //! The structs that cross the C boundary, field by field as C has them.
 
-use std::slice;
+use core::slice;
 
 /// A record of a pool, as the working table has it.
 #[repr(C)]
 #[derive(Clone, Copy, Debug, Default, PartialEq, Eq)]
+#[non_exhaustive]
 pub struct Record {
     pub start: u16,
     pub length: u16,
@@ -40,28 +41,105 @@ pub struct DeviceLabels {
     pub extended_length: u16,
 }
 
-/// A client's session. Any numbers may stand here; a call refuses a value
-/// that calls do not lead to.
+/// A part of the pool, from one place up to, and without, the other.
 #[repr(C)]
 #[derive(Clone, Copy, Debug, Default, PartialEq, Eq)]
-pub struct ClientSession {
+pub struct Span {
+    pub from: usize,
+    pub to: usize,
+}
+
+/// The fields of a device (DVC).
+#[repr(C)]
+#[derive(Clone, Copy, Debug, Default, PartialEq, Eq)]
+pub struct Device {
+    pub designator: Span,
+    /// Software version.
+    pub version: Span,
+    /// NAME of the client, its first byte lowest.
+    pub name: u64,
+    /// Serial number.
+    pub serial: Span,
+    pub structure: Span,
+    pub localization: Span,
+    /// Extended structure label.
+    pub extended: Span,
+}
+
+/// The fields of a device element (DET).
+#[repr(C)]
+#[derive(Clone, Copy, Debug, Default, PartialEq, Eq)]
+pub struct Element {
+    /// C's `type`.
+    pub element_type: u8,
+    pub designator: Span,
+    pub number: u16,
+    /// ID of the device or device element that it belongs to.
+    pub parent: u16,
+    /// How many entries its list has.
+    pub entries: u16,
+}
+
+/// The fields of a device process data (DPD).
+#[repr(C)]
+#[derive(Clone, Copy, Debug, Default, PartialEq, Eq)]
+pub struct ProcessData {
+    pub ddi: u16,
+    /// Bit 0 default set, 1 settable, 2 control source.
+    pub properties: u8,
+    /// Bit 0 time, 1 distance, 2 threshold, 3 on change, 4 total.
+    pub triggers: u8,
+    pub designator: Span,
+    /// ID of its value presentation, or 65,535.
+    pub presentation: u16,
+}
+
+/// The fields of a device property (DPT).
+#[repr(C)]
+#[derive(Clone, Copy, Debug, Default, PartialEq, Eq)]
+pub struct Property {
+    pub ddi: u16,
+    pub value: i32,
+    pub designator: Span,
+    /// ID of its value presentation, or 65,535.
+    pub presentation: u16,
+}
+
+/// The fields of a device value presentation (DVP).
+#[repr(C)]
+#[derive(Clone, Copy, Debug, Default, PartialEq, Eq)]
+pub struct Presentation {
+    pub offset: i32,
+    /// The bits of an `f32`.
+    pub scale: u32,
+    pub decimals: u8,
+    /// Unit text.
+    pub unit: Span,
+}
+
+/// A client's session. Any numbers may stand here; a call refuses a value
+/// that no calls lead to.
+#[repr(C)]
+#[derive(Clone, Copy, Debug, Default, PartialEq, Eq)]
+pub struct Session {
+    pub announced: u32,
+    pub received: u32,
+    pub kept: u32,
     /// 0 for none, 1 for offered.
-    pub stage: u32,
+    pub stage: u16,
     /// 0 or 1.
-    pub active: u32,
-    pub announced: usize,
-    pub received: usize,
-    pub kept: usize,
+    pub active: u16,
 }
 
 /// What a session call leaves and answers. A place and a fault that the answer
 /// does not have are 0.
 #[repr(C)]
 #[derive(Clone, Copy, Debug, Default, PartialEq, Eq)]
-pub struct ClientStep {
-    pub session: ClientSession,
-    pub number: u32,
+#[non_exhaustive]
+pub struct Step {
+    pub session: Session,
     pub place: usize,
+    pub number: u32,
     pub record: u16,
     pub rule: u16,
     pub item: u16,
@@ -73,11 +151,12 @@ pub struct ClientStep {
 #[derive(Clone, Copy, Debug, Default, PartialEq, Eq)]
 pub struct MessageFields {
     pub number: u32,
-    pub command: u8,
+    pub value: i32,
     pub element: u16,
     pub ddi: u16,
-    pub value: i32,
+    pub command: u8,
     pub errors: u8,
+    /// 0 to 15.
     pub answered: u8,
 }
 
@@ -90,14 +169,23 @@ pub struct LogFields {
     pub time: u32,
     /// Days since 1980-01-01.
     pub days: u16,
+    /// 1e-7 degrees, WGS-84.
     pub north: i32,
+    /// 1e-7 degrees, WGS-84.
     pub east: i32,
+    /// Millimetres above the ellipsoid of WGS-84.
     pub up: i32,
+    /// Of the position; 15 means that it is missing.
     pub status: u8,
+    /// Tenths.
     pub pdop: u16,
+    /// Tenths.
     pub hdop: u16,
+    /// Satellites that are used.
     pub satellites: u8,
+    /// UTC, milliseconds since midnight.
     pub gps_time: u32,
+    /// UTC, days since 1980-01-01.
     pub gps_date: u16,
 }
 

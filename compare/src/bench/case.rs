@@ -9,6 +9,7 @@ use crate::library::{self, ENTRY_WORDS, FAULT_WORDS};
 use crate::objects::{pool_of, Object};
 use crate::queries::Query;
 use crate::verdict::Verdict;
+use lachsbrille::c::DeviceLabels;
 use second::{Fault, Record};
 use std::hint::black_box;
 
@@ -30,6 +31,7 @@ pub struct Case {
     faults: usize,
     table_words: Vec<u16>,
     fault_words: Vec<u16>,
+    labels: DeviceLabels,
     table: Vec<Record>,
     buffer: Vec<Fault>,
 }
@@ -45,6 +47,7 @@ impl Case {
             faults: verdict.faults.len(),
             table_words: vec![0; ENTRY_WORDS * records],
             fault_words: vec![0; FAULT_WORDS * FAULTS],
+            labels: DeviceLabels::default(),
             table: vec![Record::default(); records],
             buffer: vec![Fault::default(); FAULTS],
         }
@@ -93,7 +96,7 @@ impl Case {
         match work {
             Work::Read => keep(library::read(pool, table)),
             Work::Check => keep(library::check(pool, table, faults)),
-            Work::Query(query) => query.by_library(pool, table),
+            Work::Query(query) => query.by_library(pool, table, black_box(&mut self.labels)),
             Work::Judge(order) => keep(order.judge_by_library(pool, table)),
         }
     }

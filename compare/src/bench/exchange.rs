@@ -15,13 +15,13 @@ const SEED: u64 = 11783;
 const ITEMS: usize = 1_000;
 const REPEATS: usize = 50;
 
-const DECIMALS: u8 = 2;
-const VALUE_COMMANDS: [u8; 8] = [2, 3, 4, 5, 6, 7, 8, 10];
+const DECIMALS: u32 = 2;
+const VALUE_COMMANDS: [u32; 8] = [2, 3, 4, 5, 6, 7, 8, 10];
 
 struct Item {
     bytes: [u8; 8],
-    command: u8,
-    element: u16,
+    command: u32,
+    element: u32,
     ddi: u16,
     value: i32,
     offset: i32,
@@ -32,7 +32,7 @@ impl Item {
     fn draw(random: &mut Random) -> Self {
         let mut bytes = [0; 8];
         let command = random.pick(&VALUE_COMMANDS);
-        let element = random.between(0, 4_095) as u16;
+        let element = random.between(0, 4_095) as u32;
         let ddi = random.draw() as u16;
         let value = random.draw() as i32;
         write_value(&mut bytes, command, element, ddi, value);

@@ -5,14 +5,17 @@ use super::keep;
 use super::table::{grouped, Group, Row, Unit};
 use super::times::{time, Rounds, Side};
 use crate::library::Of;
-use crate::logs::{read_log, read_record, write_record, Draft, Fields, Reading, Whole, Writing};
+use crate::logs::{
+    read_log_into, read_record_into, write_record, Draft, Fields, Log, Reading, Record, Whole,
+    Writing,
+};
 use crate::random::Random;
 use std::hint::black_box;
 
 const SEED: u64 = 11783;
 /// All optional fields, and north, east and status.
-const ALL: u16 = 0x1FF;
-const THREE: u16 = 0x00B;
+const ALL: u32 = 0x1FF;
+const THREE: u32 = 0x00B;
 /// Values of a record at most.
 const MOST_VALUES: usize = 255;
 
@@ -28,7 +31,7 @@ const DAY: usize = 86_400;
 const LOG_ROUNDS: usize = 101;
 
 /// Kinds of records: a name, the layout and the count of values.
-const RECORDS: [(&str, u16, usize); 4] = [
+const RECORDS: [(&str, u32, usize); 4] = [
     ("0x00B, 2 values", THREE, 2),
     ("0x1FF, 10 values", ALL, 10),
     ("0x1FF, 30 values", ALL, 30),
@@ -36,7 +39,7 @@ const RECORDS: [(&str, u16, usize); 4] = [
 ];
 
 /// Kinds of logs: a name, the layout and the least and most count of values.
-const LOGS: [(&str, u16, usize, usize); 5] = [
+const LOGS: [(&str, u32, usize, usize); 5] = [
     ("0x1FF, 30 values", ALL, 30, 30),
     ("0x1FF, 0 to 30 values", ALL, 0, 30),
     ("0x1FF, 10 values", ALL, 10, 10),
@@ -54,6 +57,7 @@ struct Item {
 
 /// Memory that calls are lent.
 struct Lent {
+    record: Record,
     to: Vec<u8>,
     ordinals: Vec<u8>,
     values: Vec<i32>,
@@ -94,7 +98,7 @@ pub fn bench_records() -> Result<Group, String> {
 }
 
 impl Item {
-    fn draw(random: &mut Random, layout: u16, count: usize) -> Self {
+    fn draw(random: &mut Random, layout: u32, count: usize) -> Self {
         let draft = Draft::under(random, layout, count, count);
         let (fields, bytes) = (Fields::of(&draft.fields), draft.bytes());
         Item {
@@ -120,7 +124,8 @@ impl Item {
     fn read_by_library(&self, lent: &mut Lent) {
         let (layout, logged) = (self.draft.layout, self.draft.logged);
         let (ordinals, values) = (black_box(&mut lent.ordinals), black_box(&mut lent.values));
-        keep(read_record(&self.bytes, layout, logged, ordinals, values));
+        let record = black_box(&mut lent.record);
+        read_record_into(record, &self.bytes, layout, logged, ordinals, values);
     }
 
     fn read_by_second(&self, lent: &mut Lent) {
@@ -140,7 +145,7 @@ impl Item {
         keep(write_record(
             black_box(&mut lent.to),
             draft.layout,
-            self.fields,
+            &self.fields,
             draft.logged,
             &draft.ordinals,
             &draft.values,
@@ -166,6 +171,7 @@ impl Lent {
     /// Enough for every record.
     fn new() -> Self {
         Lent {
+            record: Record::default(),
             to: vec![0; 2_000],
             ordinals: vec![0; MOST_VALUES],
             values: vec![0; MOST_VALUES],
@@ -205,12 +211,16 @@ pub fn bench_logs() -> Result<Group, String> {
     })
 }
 
-fn time_log(bytes: &[u8], layout: u16, most: usize) -> Rounds {
+fn time_log(bytes: &[u8], layout: u32, most: usize) -> Rounds {
     let mut rounds = Rounds::default();
+    let mut log = Log::default();
     for _ in 0..LOG_ROUNDS {
         let bytes = black_box(bytes);
         rounds.push(|side| match side {
-            Side::Library => time(1, || keep(read_log(bytes, layout, most))),
+            Side::Library => time(1, || {
+                read_log_into(&mut log, bytes, layout, most);
+                keep(log);
+            }),
             Side::Second => time(1, || keep(second::read_log(bytes, layout, most))),
         });
     }

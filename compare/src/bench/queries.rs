@@ -19,7 +19,7 @@ const ROUND: f64 = 250.0;
 /// Texts and labels.
 pub fn bench_queries() -> Result<Group, String> {
     let objects = realistic(SIZE);
-    let last = objects[objects.len() - 1].id;
+    let last = u32::from(objects[objects.len() - 1].id);
     let queries = [
         ("text of the device", Query::Text(0)),
         ("text of the last record", Query::Text(last)),
@@ -33,7 +33,7 @@ pub fn bench_queries() -> Result<Group, String> {
 pub fn bench_judging() -> Result<Group, String> {
     let objects = realistic(SIZE);
     let mut elements = objects.iter().filter(|it| it.kind == Kind::Det);
-    let last_element = elements.next_back().map_or(0, |it| it.number);
+    let last_element = elements.next_back().map_or(0, |it| it.number.into());
     let judged = [
         ("command 1", judge(1, 0, 0)),
         ("command 4, first element", judge(4, 0, 0)),
@@ -60,7 +60,7 @@ pub fn bench_one_list() -> Result<Group, String> {
     bench_all("judging, one list", of, &one_list(), &judged)
 }
 
-fn judge(command: u8, element: u16, ddi: u16) -> Work {
+fn judge(command: u32, element: u32, ddi: u16) -> Work {
     Work::Judge(Order {
         command,
         element,

@@ -6,7 +6,7 @@ use super::table::{grouped, Group, Row, Unit};
 use super::times::{time, Rounds, Side};
 use crate::library::{Of, ENTRY_WORDS};
 use crate::sessions::{longest, Call, Client, Value};
-use lachsbrille::c::{session_activate, session_transfer, Record as TableEntry};
+use lachsbrille::c::{session_activate, session_transfer, Record as TableEntry, Step};
 use second::{Record, Session, Stage};
 use std::hint::black_box;
 
@@ -23,9 +23,13 @@ enum Work {
     Activate,
 }
 
-/// Each side's areas, and the pool that is sent.
+/// Each side's areas, and the pool that is sent. What a call is given is made
+/// beforehand, so that the call is timed and nothing beside it.
 struct Bench {
     pool: Vec<u8>,
+    /// After the offer, and when all has arrived.
+    offered: Value,
+    arrived: Value,
     staging: Vec<u8>,
     kept: Vec<u8>,
     table_words: Vec<u16>,
@@ -57,7 +61,10 @@ pub fn bench() -> Result<Group, String> {
 impl Bench {
     fn new(case: &Case) -> Self {
         let pool = case.pool.clone();
+        let length = pool.len();
         Bench {
+            offered: Value::of(session(length, 0)),
+            arrived: Value::of(session(length, length)),
             staging: pool.clone(),
             kept: pool.clone(),
             table_words: vec![0; ENTRY_WORDS * case.records()],
@@ -87,17 +94,6 @@ impl Bench {
         Ok(())
     }
 
-    /// The session after the offer and so many bytes.
-    fn session(&self, received: usize) -> Session {
-        Session {
-            stage: Stage::Offered,
-            announced: self.pool.len(),
-            received,
-            kept: 0,
-            active: false,
-        }
-    }
-
     fn time(&mut self, side: Side, work: Work, calls: usize) -> f64 {
         match side {
             Side::Library => time(calls, || self.by_library(work)),
@@ -108,18 +104,22 @@ impl Bench {
     fn by_library(&mut self, work: Work) {
         match work {
             Work::Transfer(length) => {
-                let mut value = Value::of(self.session(0));
+                let mut step = Step::default();
+                let mut value = black_box(self.offered);
                 let staging = black_box(&mut self.staging[..]);
                 for piece in black_box(&self.pool[..]).chunks(length) {
-                    value = session_transfer(value, piece, staging).session;
+                    session_transfer(&mut step, value, piece, staging);
+                    value = step.session;
                 }
                 keep(value);
             }
             Work::Activate => {
-                let value = black_box(Value::of(self.session(self.pool.len())));
+                let mut step = Step::default();
+                let value = black_box(self.arrived);
                 let staging = black_box(&self.staging[..]);
                 let table = TableEntry::table(&mut self.table_words);
-                keep(session_activate(value, staging, &mut self.kept, table));
+                session_activate(&mut step, value, staging, &mut self.kept, table);
+                keep(step);
             }
         }
     }
@@ -127,7 +127,7 @@ impl Bench {
     fn by_second(&mut self, work: Work) {
         match work {
             Work::Transfer(length) => {
-                let mut session = self.session(0);
+                let mut session = black_box(session(self.pool.len(), 0));
                 let staging = black_box(&mut self.staging[..]);
                 for piece in black_box(&self.pool[..]).chunks(length) {
                     session = session.transfer(piece, staging).session;
@@ -135,10 +135,22 @@ impl Bench {
                 keep(session);
             }
             Work::Activate => {
-                let session = black_box(self.session(self.pool.len()));
+                let length = self.pool.len();
+                let session = black_box(session(length, length));
                 let staging = black_box(&self.staging[..]);
                 keep(session.activate(staging, &mut self.kept, &mut self.table));
             }
         }
+    }
+}
+
+/// The session after an offer of this size and so many bytes.
+fn session(announced: usize, received: usize) -> Session {
+    Session {
+        stage: Stage::Offered,
+        announced,
+        received,
+        kept: 0,
+        active: false,
     }
 }

@@ -8,7 +8,7 @@ use crate::part::Part;
 use crate::random::Random;
 use std::ops::RangeInclusive;
 
-const MOST_DECIMALS: u8 = 7;
+const MOST_DECIMALS: u32 = 7;
 /// The offset's and the value's ends, their neighbours and some between.
 const NUMBERS: [i32; 15] = [
     i32::MIN,
@@ -73,7 +73,8 @@ const SCALES: [u32; 42] = [
     0xFFC0_0000,
     0xFFFF_FFFF,
 ];
-const DECIMALS: [u8; 7] = [0, 1, 6, 7, 8, 9, 255];
+/// Around the greatest, and such as fit without their upper bits.
+const DECIMALS: [u32; 10] = [0, 1, 6, 7, 8, 9, 255, 256, 0x1_0001, 1 << 31];
 
 const ROWS: [&str; 12] = [
     "zero",
@@ -199,7 +200,7 @@ pub struct Asked {
     pub offset: i32,
     /// As bits.
     pub scale: u32,
-    pub decimals: u8,
+    pub decimals: u32,
 }
 
 impl Asked {
@@ -221,9 +222,9 @@ impl Asked {
             offset
         };
         let decimals = match random.below(10) {
-            0 => random.byte(),
+            0 => u32::from(random.byte()) << random.below(25),
             1 => random.pick(&[7, 8]),
-            _ => random.below(8) as u8,
+            _ => random.below(8) as u32,
         };
         Asked {
             value,

@@ -17,12 +17,42 @@ use crate::verdict::Verdict;
 use second::Kind;
 
 /// The commands that are judged; a row each.
-const COMMANDS: [u8; 18] = [
-    0, 1, 2, 3, 4, 5, 6, 7, 8, 9, 10, 11, 12, 13, 14, 15, 16, 255,
+const COMMANDS: [u32; 21] = [
+    0,
+    1,
+    2,
+    3,
+    4,
+    5,
+    6,
+    7,
+    8,
+    9,
+    10,
+    11,
+    12,
+    13,
+    14,
+    15,
+    16,
+    255,
+    259,
+    65_540,
+    0x8000_0003,
 ];
 const VALUES: [i32; 6] = [i32::MIN, -1, 0, 1, 1_000, i32::MAX];
 /// Numbers that no element has, though some would fit without upper bits.
-const HIGH_NUMBERS: [u16; 5] = [4_096, 4_097, 8_191, 32_768, 65_535];
+const HIGH_NUMBERS: [u32; 9] = [
+    4_096,
+    4_097,
+    8_191,
+    32_768,
+    65_535,
+    65_536,
+    65_554,
+    1 << 31,
+    u32::MAX,
+];
 /// Orders given to a seeded pool that is accepted, and to another one.
 const ORDERS: usize = 24;
 const FEW_ORDERS: usize = 4;
@@ -174,8 +204,8 @@ impl Subject {
     }
 
     /// What the list of the element with this number names.
-    fn data(&self, number: u16) -> Vec<&Object> {
-        let element = self.elements().find(|it| it.number == number);
+    fn data(&self, number: u32) -> Vec<&Object> {
+        let element = self.elements().find(|it| u32::from(it.number) == number);
         let entries = element.map_or(&[][..], |it| &it.entries);
         let named = entries.iter().filter_map(|&id| named(&self.objects, id));
         named.map(|index| &self.objects[index]).collect()
@@ -220,7 +250,7 @@ fn every_bit(part: &mut Part) {
                         give(part, &subject, words, order);
                     }
                 }
-                for element in [6, 8, 4_095, 4_096, 4_096 + 7] {
+                for element in [6, 8, 4_095, 4_096, 4_096 + 7, 65_536 + 7, (1 << 31) + 7] {
                     let order = Order {
                         command,
                         element,
@@ -286,7 +316,7 @@ fn give_orders(part: &mut Part, random: &mut Random, subject: &Subject, count: u
 }
 
 /// Mostly one that carries a value.
-fn draw_command(random: &mut Random) -> u8 {
+fn draw_command(random: &mut Random) -> u32 {
     let any = random.pick(&COMMANDS);
     let valued = random.pick(&[2, 3, 4, 5, 6, 7, 8, 10]);
     random.pick(&[any, valued, valued])
@@ -299,23 +329,24 @@ fn draw_value(random: &mut Random) -> i32 {
 }
 
 /// Mostly the number of an element.
-fn draw_element(random: &mut Random, numbers: &[u16]) -> u16 {
-    let any = random.between(0, GREATEST_NUMBER.into()) as u16;
+fn draw_element(random: &mut Random, numbers: &[u16]) -> u32 {
+    let greatest = u32::from(GREATEST_NUMBER);
+    let any = random.between(0, greatest as usize) as u32;
     let known = match numbers {
         [] => any,
-        _ => random.pick(numbers) & 0xFFF,
+        _ => u32::from(random.pick(numbers) & GREATEST_NUMBER),
     };
     match random.below(12) {
         0 => any,
-        1 => random.pick(&[0, GREATEST_NUMBER, known ^ 1]),
+        1 => random.pick(&[0, greatest, known ^ 1]),
         2 => random.pick(&HIGH_NUMBERS),
-        3 => known + GREATEST_NUMBER + 1,
+        3 => known | 1 << random.between(12, 31),
         _ => known,
     }
 }
 
 /// Mostly a DDI of the element's list.
-fn draw_ddi(random: &mut Random, subject: &Subject, element: u16, ddis: &[u16]) -> u16 {
+fn draw_ddi(random: &mut Random, subject: &Subject, element: u32, ddis: &[u16]) -> u16 {
     let any = random.draw() as u16;
     let own = subject.data(element);
     let elsewhere = if ddis.is_empty() {
@@ -391,7 +422,9 @@ fn refusal(subject: &Subject, words: usize, judged: &Judgement) -> &'static str 
 fn error(subject: &Subject, order: Order, error: u8) -> &'static str {
     let data = subject.data(order.element);
     let kind = data.iter().find(|it| it.ddi == order.ddi).map(|it| it.kind);
-    let has_element = subject.elements().any(|it| it.number == order.element);
+    let has_element = subject
+        .elements()
+        .any(|it| u32::from(it.number) == order.element);
     let has_ddi = |it: &Object| it.is_data() && it.ddi == order.ddi;
     let elsewhere = subject.objects.iter().any(has_ddi);
     match (error, kind) {

@@ -16,8 +16,8 @@ const ACKNOWLEDGE: u8 = 13;
 /// A command to a device.
 #[derive(Clone, Copy, Debug)]
 pub struct Order {
-    pub command: u8,
-    pub element: u16,
+    pub command: u32,
+    pub element: u32,
     pub ddi: u16,
     pub value: i32,
 }
@@ -40,8 +40,8 @@ impl Of<Result<Message, u8>> for Fields {
                 ddi,
                 value,
             }) => Fields {
-                command,
-                element,
+                command: within(command),
+                element: within(element),
                 ddi,
                 value,
                 ..Fields::default()
@@ -53,10 +53,10 @@ impl Of<Result<Message, u8>> for Fields {
                 answered,
             }) => Fields {
                 command: ACKNOWLEDGE,
-                element,
+                element: within(element),
                 ddi,
                 errors,
-                answered,
+                answered: within(answered),
                 ..Fields::default()
             },
             Err(number) => Fields {
@@ -65,6 +65,12 @@ impl Of<Result<Message, u8>> for Fields {
             },
         }
     }
+}
+
+/// A number of a message that was read or written, which is in its range.
+fn within<Number: TryFrom<u32>>(number: u32) -> Number {
+    let number = Number::try_from(number).ok();
+    number.expect("a message holds numbers in their ranges")
 }
 
 impl Order {

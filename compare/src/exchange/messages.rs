@@ -13,14 +13,35 @@ use std::io;
 const MESSAGE_BYTES: usize = 8;
 const LONGEST: usize = 16;
 const ACKNOWLEDGE: usize = 13;
-const GREATEST_ELEMENT: u16 = 4_095;
-const GREATEST_ANSWERED: u8 = 15;
-const VALUE_COMMANDS: [u8; 8] = [2, 3, 4, 5, 6, 7, 8, 10];
+const GREATEST_ELEMENT: u32 = 4_095;
+const GREATEST_ANSWERED: u32 = 15;
+const VALUE_COMMANDS: [u32; 8] = [2, 3, 4, 5, 6, 7, 8, 10];
 /// Around the greatest, around a half byte, and such as fit without their
 /// upper bits.
-const ELEMENTS: [u16; 16] = [
-    0, 1, 15, 16, 17, 18, 255, 256, 2_048, 4_094, 4_095, 4_096, 4_097, 8_191, 32_768, 65_535,
+const ELEMENTS: [u32; 20] = [
+    0,
+    1,
+    15,
+    16,
+    17,
+    18,
+    255,
+    256,
+    2_048,
+    4_094,
+    4_095,
+    4_096,
+    4_097,
+    8_191,
+    32_768,
+    65_535,
+    65_536,
+    65_554,
+    0x8000_0012,
+    u32::MAX,
 ];
+/// Commands and answered commands that are in range without their upper bits.
+const WIDE: [u32; 6] = [256, 259, 0x1_0003, 0x100_000A, 0x8000_0002, u32::MAX];
 const NUMBERS: [i32; 7] = [i32::MIN, -2, -1, 0, 1, 256, i32::MAX];
 
 /// The grids, by their place in the part.
@@ -104,7 +125,7 @@ fn grids() -> Vec<Grid> {
 }
 
 fn carries_value(command: usize) -> bool {
-    VALUE_COMMANDS.iter().any(|&it| usize::from(it) == command)
+    VALUE_COMMANDS.iter().any(|&it| it as usize == command)
 }
 
 /// All combinations of command and element.
@@ -129,7 +150,7 @@ fn every_length(part: &mut Part, random: &mut Random) {
 }
 
 fn every_value_written(part: &mut Part, random: &mut Random) {
-    for command in 0..=u8::MAX {
+    for command in (0..=255).chain(WIDE) {
         for element in ELEMENTS {
             for length in 0..=LONGEST {
                 write(part, value_message(random, command, element), length);
@@ -145,7 +166,7 @@ fn every_value_written(part: &mut Part, random: &mut Random) {
 }
 
 fn every_acknowledge_written(part: &mut Part, random: &mut Random) {
-    for answered in 0..=u8::MAX {
+    for answered in (0..=255).chain(WIDE) {
         for element in ELEMENTS {
             for length in 0..=LONGEST {
                 write(part, acknowledge(random, element, answered), length);
@@ -153,7 +174,7 @@ fn every_acknowledge_written(part: &mut Part, random: &mut Random) {
         }
     }
     for element in 0..=GREATEST_ELEMENT {
-        let answered = random.between(0, GREATEST_ANSWERED.into()) as u8;
+        let answered = random.between(0, GREATEST_ANSWERED as usize) as u32;
         write(part, acknowledge(random, element, answered), MESSAGE_BYTES);
     }
 }
@@ -161,19 +182,32 @@ fn every_acknowledge_written(part: &mut Part, random: &mut Random) {
 /// Any message, half of them such as can be written.
 fn drawn(random: &mut Random) -> Message {
     let any = random.draw() as u16;
-    let element = random.pick(&[any, any % (GREATEST_ELEMENT + 1)]);
+    let sound = u32::from(any) % (GREATEST_ELEMENT + 1);
+    let element = random.pick(&[any.into(), sound, sound]);
+    let element = widened(random, element);
+    let any = u32::from(random.byte());
     if random.one_in(2) {
-        let any = random.byte();
         let command = random.pick(&VALUE_COMMANDS);
-        value_message(random, if any < 16 { any } else { command }, element)
+        let command = widened(random, if any < 16 { any } else { command });
+        value_message(random, command, element)
     } else {
-        let any = random.byte();
         let answered = random.pick(&[any, any % 16, any % 16]);
+        let answered = widened(random, answered);
         acknowledge(random, element, answered)
     }
 }
 
-fn value_message(random: &mut Random, command: u8, element: u16) -> Message {
+/// Mostly the number as it is, else with an upper bit that a narrower one
+/// would lose.
+fn widened(random: &mut Random, number: u32) -> u32 {
+    match random.below(24) {
+        0 => number | 1 << random.between(8, 31),
+        1 => number | 1 << 16,
+        _ => number,
+    }
+}
+
+fn value_message(random: &mut Random, command: u32, element: u32) -> Message {
     let any = random.draw() as i32;
     let edge = random.pick(&NUMBERS);
     Message::Value {
@@ -184,7 +218,7 @@ fn value_message(random: &mut Random, command: u8, element: u16) -> Message {
     }
 }
 
-fn acknowledge(random: &mut Random, element: u16, answered: u8) -> Message {
+fn acknowledge(random: &mut Random, element: u32, answered: u32) -> Message {
     Message::Acknowledge {
         element,
         ddi: random.draw() as u16,
@@ -224,7 +258,7 @@ pub fn read_by_both(message: &[u8]) -> Result<Fields, String> {
 fn write(part: &mut Part, message: Message, length: usize) {
     let input = || format!("writing {message:?} into {length} bytes");
     let (grid, row) = match message {
-        Message::Value { command, .. } => (VALUE, usize::from(command).min(OVER_16)),
+        Message::Value { command, .. } => (VALUE, (command as usize).min(OVER_16)),
         Message::Acknowledge {
             element, answered, ..
         } => {
@@ -253,7 +287,7 @@ fn read_back(part: &mut Part, message: Message, written: &[u8]) {
             let row = VALUE_COMMANDS.iter().position(|it| *it == command);
             (VALUE_BACK, row.expect("the command was written"))
         }
-        Message::Acknowledge { answered, .. } => (ACK_BACK, usize::from(answered)),
+        Message::Acknowledge { answered, .. } => (ACK_BACK, answered as usize),
     };
     part.take(grid, row, outcome, || format!("reading back {message:?}"));
 }

@@ -11,9 +11,27 @@ use second::LogFields;
 
 /// Header counts around the ordinals' ends.
 pub const HEADER_COUNTS: [usize; 8] = [0, 1, 2, 128, 255, 256, 257, usize::MAX];
-/// Layouts that are refused: each bit above 8 alone, and some together.
-pub const REFUSED_LAYOUTS: [u16; 11] = [
-    512, 513, 1_023, 1_024, 2_048, 4_096, 8_192, 16_384, 32_768, 65_024, 65_535,
+/// Layouts that are refused: each bit above 8 alone, and some together. The
+/// later ones are not refused once their upper half is gone.
+pub const REFUSED_LAYOUTS: [u32; 18] = [
+    512,
+    513,
+    1_023,
+    1_024,
+    2_048,
+    4_096,
+    8_192,
+    16_384,
+    32_768,
+    65_024,
+    65_535,
+    0x1_0000,
+    0x1_0001,
+    0x1_01FF,
+    0x2_000B,
+    0x100_0155,
+    0x8000_01FF,
+    u32::MAX,
 ];
 /// Around the limit, and such as have the top bit set.
 pub const TIMES: [u32; 7] = [
@@ -33,7 +51,7 @@ const NUMBERS: [i32; 7] = [i32::MIN, -256, -1, 0, 1, 255, i32::MAX];
 /// A record under a layout, and the number of log values in the header.
 #[derive(Clone, Debug)]
 pub struct Draft {
-    pub layout: u16,
+    pub layout: u32,
     pub logged: usize,
     pub fields: LogFields,
     pub ordinals: Vec<u8>,
@@ -42,7 +60,7 @@ pub struct Draft {
 
 impl Draft {
     /// A record of so many values that nothing speaks against but its layout.
-    pub fn draw(random: &mut Random, layout: u16, count: usize) -> Self {
+    pub fn draw(random: &mut Random, layout: u32, count: usize) -> Self {
         let any = random.between(1, 300);
         let edge = random.pick(&HEADER_COUNTS);
         let logged = random.pick(&[any, edge, count]);
@@ -50,7 +68,7 @@ impl Draft {
     }
 
     /// The same under a header, whose count is not 0 if there are values.
-    pub fn under(random: &mut Random, layout: u16, logged: usize, count: usize) -> Self {
+    pub fn under(random: &mut Random, layout: u32, logged: usize, count: usize) -> Self {
         let ordinals = logged.min(256);
         let mut draft = Draft {
             layout,
@@ -108,11 +126,12 @@ impl Draft {
 }
 
 /// Any layout, mostly one that is not refused.
-pub fn draw_layout(random: &mut Random) -> u16 {
-    let any = random.draw() as u16;
-    match random.below(16) {
+pub fn draw_layout(random: &mut Random) -> u32 {
+    let any = random.draw() as u32;
+    match random.below(24) {
         0 => random.pick(&REFUSED_LAYOUTS),
-        1 => any,
+        1 => any % 0x1_0000,
+        2 => (any % LAYOUTS) | 1 << random.between(9, 31),
         _ => any % LAYOUTS,
     }
 }
@@ -128,7 +147,7 @@ pub fn draw_count(random: &mut Random) -> usize {
 }
 
 /// The bytes of a record by its layout's lower bits.
-pub fn bytes_of(layout: u16, fields: &LogFields, ordinals: &[u8], values: &[i32]) -> Vec<u8> {
+pub fn bytes_of(layout: u32, fields: &LogFields, ordinals: &[u8], values: &[i32]) -> Vec<u8> {
     let parts: [&[u8]; WIDTHS.len()] = [
         &fields.north.to_le_bytes(),
         &fields.east.to_le_bytes(),
@@ -154,7 +173,7 @@ pub fn bytes_of(layout: u16, fields: &LogFields, ordinals: &[u8], values: &[i32]
 }
 
 /// The fields with 0 for those that are not marked.
-pub fn kept(layout: u16, fields: &LogFields) -> Fields {
+pub fn kept(layout: u32, fields: &LogFields) -> Fields {
     let mut kept = Fields::of(fields);
     let clear: [fn(&mut Fields); WIDTHS.len()] = [
         |it| it.north = 0,
@@ -176,7 +195,7 @@ pub fn kept(layout: u16, fields: &LogFields) -> Fields {
 }
 
 /// Fields within their limits; those that are not marked are any.
-fn draw_fields(random: &mut Random, layout: u16) -> LogFields {
+fn draw_fields(random: &mut Random, layout: u32) -> LogFields {
     let mut fields = LogFields {
         time: random.below(GREATEST_TIME as usize + 1) as u32,
         days: random.draw() as u16,

@@ -107,7 +107,7 @@ mod tests {
         ways: &["way"],
     };
 
-    fn take(report: &mut Report, bytes: &[u8], layout: u16, number: u32) {
+    fn take(report: &mut Report, bytes: &[u8], layout: u32, number: u32) {
         let causes = Causes::of_reading(bytes, layout, 0, [0; 2]);
         let outcome = Ok((number, "way"));
         LADDER.take(&mut report.parts[0], causes, outcome, String::new);

@@ -11,7 +11,7 @@ mod whole;
 mod writing;
 
 pub use draft::Draft;
-pub use library::{read_log, read_record, write_record, Fields};
+pub use library::{read_log_into, read_record_into, write_record, Fields, Log, Record};
 pub use reading::Reading;
 pub use whole::Whole;
 pub use writing::Writing;
@@ -19,6 +19,7 @@ pub use writing::Writing;
 use crate::grid::Grid;
 use crate::library::Of;
 use crate::part::{Part, Report};
+use draft::REFUSED_LAYOUTS;
 use library::Marks;
 use std::io;
 use vector::Vector;
@@ -39,11 +40,16 @@ pub fn compare(seed: u64, pools: u64) -> io::Result<Report> {
     })
 }
 
-/// The number of optional fields of every layout.
+/// The number of optional fields of every layout of 16 bits, and of many that
+/// are one of these but for their upper half.
 fn every_layout() -> Part {
     let grid = Grid::new("optional fields", [""], MARKS, |_, _| true);
     let mut part = Part::new("log layouts", vec![grid]);
-    for layout in 0..=u16::MAX {
+    let wide = REFUSED_LAYOUTS
+        .into_iter()
+        .filter(|&layout| layout > 0xFFFF);
+    let each_bit = (16..32).flat_map(|bit| [0, 0x00B, 0x1FF].map(|low| low | 1 << bit));
+    for layout in (0..=0xFFFF).chain(wide).chain(each_bit) {
         let outcome = layout_by_both(layout);
         let column = outcome.clone().map(|it| (it.number + it.count).to_string());
         let outcome = column.as_deref().map_err(String::clone);
@@ -53,7 +59,7 @@ fn every_layout() -> Part {
 }
 
 /// The number of optional fields, on which both sides and the rules agree.
-pub fn layout_by_both(layout: u16) -> Result<Marks, String> {
+pub fn layout_by_both(layout: u32) -> Result<Marks, String> {
     let library = library::optional_fields(layout);
     let second = Marks::of(second::optional_fields(layout));
     let owed = Marks::of(rules::optional_fields(layout));

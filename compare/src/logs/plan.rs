@@ -8,7 +8,7 @@ use crate::random::Random;
 use second::LogFields;
 
 /// Layouts without and with all optional fields, the vector's and others.
-pub const SOME_LAYOUTS: [u16; 6] = [0, 0x1FF, 0x00B, 0x009, 0x0F4, 0x155];
+pub const SOME_LAYOUTS: [u32; 6] = [0, 0x1FF, 0x00B, 0x009, 0x0F4, 0x155];
 /// Counts that all layouts get.
 const SOME_COUNTS: [usize; 6] = [0, 1, 2, 17, 128, 255];
 /// Fields without a limit, before the status and behind it.
@@ -37,8 +37,9 @@ pub fn every_size(random: &mut Random) -> Vec<Draft> {
 }
 
 /// Every layout that is not refused, and many that are.
-pub fn every_layout(random: &mut Random) -> Vec<u16> {
-    let drawn = (0..DRAWN_LAYOUTS).map(|_| random.draw() as u16 | 1 << random.between(9, 15));
+pub fn every_layout(random: &mut Random) -> Vec<u32> {
+    let drawn =
+        (0..DRAWN_LAYOUTS).map(|_| random.draw() as u16 as u32 | 1 << random.between(9, 31));
     let refused = REFUSED_LAYOUTS.into_iter().chain(drawn);
     (0..LAYOUTS).chain(refused).collect()
 }
@@ -119,7 +120,7 @@ fn every_status(drafts: &mut Vec<Draft>, random: &mut Random) {
 }
 
 /// All choices of the fields that have limits, with others between.
-fn limited_layouts() -> impl Iterator<Item = u16> {
+fn limited_layouts() -> impl Iterator<Item = u32> {
     (0..32).map(|choice| {
         let fields = [NORTH, EAST, UP, STATUS, HDOP];
         let bits = fields.iter().enumerate();
@@ -199,7 +200,7 @@ mod tests {
         assert!((0..LAYOUTS).all(|layout| layouts.contains(&layout)));
         let refused = layouts.iter().filter(|&&layout| layout >= LAYOUTS);
         assert_eq!(refused.count(), REFUSED_LAYOUTS.len() + DRAWN_LAYOUTS);
-        let limited: Vec<u16> = limited_layouts().collect();
+        let limited: Vec<u32> = limited_layouts().collect();
         assert_eq!(limited[..5], [0, 1, 2, 3, 4]);
         assert_eq!(limited[31], 0x2F);
     }
@@ -207,7 +208,7 @@ mod tests {
     #[test]
     fn all_layouts_and_all_counts_are_sizes() {
         let drafts = every_size(&mut Random::new(11783));
-        let sizes: HashSet<(u16, usize)> = (drafts.iter())
+        let sizes: HashSet<(u32, usize)> = (drafts.iter())
             .map(|draft| (draft.layout, draft.count()))
             .collect();
         for layout in 0..LAYOUTS {
@@ -217,7 +218,7 @@ mod tests {
             assert!(SOME_LAYOUTS.iter().all(|&it| sizes.contains(&(it, count))));
         }
         let cut = drafts.iter().filter(|draft| is_cut(draft));
-        let cut: HashSet<u16> = cut.map(|draft| draft.layout).collect();
+        let cut: HashSet<u32> = cut.map(|draft| draft.layout).collect();
         assert!((0..LAYOUTS).all(|layout| cut.contains(&layout)));
     }
 

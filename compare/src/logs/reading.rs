@@ -35,7 +35,7 @@ const BEHIND: [usize; 3] = [1, 5, 90];
 #[derive(Clone, Copy)]
 pub struct Reading<'a> {
     pub bytes: &'a [u8],
-    pub layout: u16,
+    pub layout: u32,
     pub logged: usize,
     /// Lengths of the lists of ordinals and values.
     pub lists: [usize; 2],

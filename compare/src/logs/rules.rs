@@ -11,7 +11,7 @@ pub const STATUSES: [u8; 11] = [0, 1, 2, 3, 4, 5, 6, 7, 8, 14, 15];
 /// Values of a record.
 pub const MOST_VALUES: usize = 255;
 /// Layouts with a bit above 8 are refused.
-pub const LAYOUTS: u16 = 512;
+pub const LAYOUTS: u32 = 512;
 /// An ordinal with its value.
 pub const PAIR_BYTES: usize = 5;
 
@@ -53,7 +53,7 @@ impl Causes {
     /// Of a record that starts with the bytes and is read into lists of these
     /// lengths. Of a record that is cut, by the bytes that are there; under a
     /// refused layout, by its lower bits.
-    pub fn of_reading(bytes: &[u8], layout: u16, logged: usize, lists: [usize; 2]) -> Self {
+    pub fn of_reading(bytes: &[u8], layout: u32, logged: usize, lists: [usize; 2]) -> Self {
         let count_at = place(layout, WIDTHS.len());
         let count = bytes.get(count_at).map(|&count| usize::from(count));
         let length = count.map(|count| count_at + 1 + PAIR_BYTES * count);
@@ -79,7 +79,7 @@ impl Causes {
     /// Of a record of the first `count` ordinals and values that is written
     /// into so many bytes.
     pub fn of_writing(
-        layout: u16,
+        layout: u32,
         fields: &LogFields,
         logged: usize,
         lists: (&[u8], &[i32]),
@@ -107,7 +107,7 @@ impl Causes {
     }
 
     /// Of the record at which reading a log stops, with what it owes then.
-    pub fn of_log(bytes: &[u8], layout: u16, logged: usize) -> (Self, Log) {
+    pub fn of_log(bytes: &[u8], layout: u32, logged: usize) -> (Self, Log) {
         let mut log = Log::default();
         while layout >= LAYOUTS || log.start < bytes.len() {
             let rest = &bytes[log.start..];
@@ -127,7 +127,7 @@ impl Causes {
 }
 
 /// How many fields a layout marks, or the number of the refusal.
-pub fn optional_fields(layout: u16) -> Result<u32, u8> {
+pub fn optional_fields(layout: u32) -> Result<u32, u8> {
     let marked = (0..WIDTHS.len()).filter(|&field| width(layout, field) > 0);
     if layout < LAYOUTS {
         Ok(marked.count() as u32)
@@ -137,7 +137,7 @@ pub fn optional_fields(layout: u16) -> Result<u32, u8> {
 }
 
 /// Where an optional field stands, if it is marked. The count comes last.
-pub fn place(layout: u16, field: usize) -> usize {
+pub fn place(layout: u32, field: usize) -> usize {
     let time_and_days = 4 + 2;
     time_and_days
         + (0..field)
@@ -146,7 +146,7 @@ pub fn place(layout: u16, field: usize) -> usize {
 }
 
 /// Bytes of an optional field; 0 where it is not marked.
-pub fn width(layout: u16, field: usize) -> usize {
+pub fn width(layout: u32, field: usize) -> usize {
     if layout >> field & 1 == 1 {
         WIDTHS[field]
     } else {
@@ -181,9 +181,9 @@ fn is_unknown(status: u8) -> bool {
 mod tests {
     use super::*;
 
-    const ALL: u16 = LAYOUTS - 1;
+    const ALL: u32 = LAYOUTS - 1;
     /// North, east and status.
-    const THREE: u16 = 0x00B;
+    const THREE: u32 = 0x00B;
 
     /// A record of one value under the layout of three fields.
     fn record() -> Vec<u8> {
@@ -210,9 +210,10 @@ mod tests {
 
     #[test]
     fn marked_fields_are_counted() {
-        let layouts = [0, 1, THREE, 0x100, ALL, LAYOUTS, u16::MAX];
-        let counts = [Ok(0), Ok(1), Ok(3), Ok(1), Ok(9), Err(47), Err(47)];
-        assert_eq!(layouts.map(optional_fields), counts);
+        let layouts = [0, 1, THREE, 0x100, ALL, LAYOUTS, 0xFFFF, 0x1_0001, u32::MAX];
+        let counts = [Ok(0), Ok(1), Ok(3), Ok(1), Ok(9)].into_iter();
+        let counts: Vec<Result<u32, u8>> = counts.chain([Err(47); 4]).collect();
+        assert_eq!(layouts.map(optional_fields)[..], counts);
     }
 
     #[test]

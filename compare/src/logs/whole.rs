@@ -36,7 +36,7 @@ const DAY: usize = 86_400;
 #[derive(Clone, Copy)]
 pub struct Whole<'a> {
     pub bytes: &'a [u8],
-    pub layout: u16,
+    pub layout: u32,
     pub logged: usize,
 }
 
@@ -122,7 +122,7 @@ fn way(log: Log) -> &'static str {
 }
 
 /// Records of one log. Without log values none has a value.
-fn records(random: &mut Random, layout: u16, logged: usize, counts: &[usize]) -> Vec<Draft> {
+fn records(random: &mut Random, layout: u32, logged: usize, counts: &[usize]) -> Vec<Draft> {
     let counts = counts.iter();
     counts
         .map(|&count| if logged == 0 { 0 } else { count })

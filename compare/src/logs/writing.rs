@@ -73,7 +73,7 @@ impl<'a> Writing<'a> {
         let values = LentArea::new(&draft.values);
         let lists = (ordinals.contents(), values.contents());
         let (to, given) = (ours.contents_mut(), Fields::of(fields));
-        let library = library::write_record(to, layout, given, logged, lists.0, lists.1, count);
+        let library = library::write_record(to, layout, &given, logged, lists.0, lists.1, count);
         let (lists, to) = ((&draft.ordinals, &draft.values), theirs.contents_mut());
         let second = second::write_record(to, layout, fields, logged, lists.0, lists.1, count);
         let second = Written::of(second);
@@ -86,6 +86,7 @@ impl<'a> Writing<'a> {
             .or_else(|| values.parting("values", &LentArea::new(&draft.values)));
         match parting {
             Some(difference) => Err(difference),
+            None if given != Fields::of(fields) => Err("the fields were changed".into()),
             None => self.check(library, ours.contents()),
         }
     }
@@ -150,7 +151,7 @@ impl<'a> Writing<'a> {
 }
 
 /// Bytes of a record.
-fn length(layout: u16, count: usize) -> usize {
+fn length(layout: u32, count: usize) -> usize {
     place(layout, WIDTHS.len()) + 1 + PAIR_BYTES * count
 }
 

@@ -12,16 +12,31 @@ pub struct TextAnswer {
 }
 
 /// Asks the proved library for the text of the record with this ID.
-pub fn text(pool: &[u8], table: &mut [u16], id: u16) -> TextAnswer {
+pub fn text(pool: &[u8], table: &mut [u16], id: u32) -> TextAnswer {
     let (mut from, mut to) = (UNWRITTEN, UNWRITTEN);
     let table = TableEntry::table(table);
     let number = c::text(pool, table, id, &mut from, &mut to);
     TextAnswer { number, from, to }
 }
 
-/// Asks the proved library for the labels.
+/// Asks the proved library for the labels. Before the call the result holds
+/// what no call gives, so that a field which is not written shows.
 pub fn labels(pool: &[u8], table: &mut [u16]) -> DeviceLabels {
-    c::labels(pool, TableEntry::table(table))
+    const UNWRITTEN: u8 = 0xA5;
+    let mut labels = DeviceLabels {
+        number: u32::MAX,
+        structure: [UNWRITTEN; 7],
+        localization: [UNWRITTEN; 7],
+        extended: [UNWRITTEN; 32],
+        extended_length: u16::MAX,
+    };
+    c::labels(&mut labels, pool, TableEntry::table(table));
+    labels
+}
+
+/// The same into a result that is lent, to be timed.
+pub fn labels_into(labels: &mut DeviceLabels, pool: &[u8], table: &mut [u16]) {
+    c::labels(labels, pool, TableEntry::table(table));
 }
 
 /// The same answer as the library would give it; a text is a part of `pool`.

@@ -19,7 +19,7 @@ const SAMPLED_IDS: usize = 6;
 #[derive(Clone, Copy, Debug)]
 pub enum Query {
     /// The text of an ID.
-    Text(u16),
+    Text(u32),
     Labels,
 }
 
@@ -33,10 +33,10 @@ impl Query {
     }
 
     /// Asks the library only, to be timed.
-    pub fn by_library(self, pool: &[u8], table: &mut [u16]) {
+    pub fn by_library(self, pool: &[u8], table: &mut [u16], labels: &mut DeviceLabels) {
         match self {
             Query::Text(id) => keep(library::text(pool, table, id)),
-            Query::Labels => keep(library::labels(pool, table)),
+            Query::Labels => library::labels_into(labels, pool, table),
         }
     }
 
@@ -61,7 +61,7 @@ pub fn queries(verdict: &Verdict, effort: Effort) -> Vec<(Query, usize)> {
 }
 
 /// Asks for the text of an ID, with a table of so many words.
-fn text(pool: &LentPool, table: usize, id: u16) -> Compared {
+fn text(pool: &LentPool, table: usize, id: u32) -> Compared {
     let second = by_second(table, |table| {
         library::text_answer_of(pool.bytes(), second::text(pool.bytes(), table, id))
     });
@@ -91,11 +91,14 @@ fn tables(verdict: &Verdict, effort: Effort) -> Vec<usize> {
 }
 
 /// The IDs to ask for: those of an accepted pool, all or some, with 0,
-/// 65535 and some that no record carries. Of another pool a few.
-fn ids(verdict: &Verdict, effort: Effort) -> BTreeSet<u16> {
-    let carried: BTreeSet<u16> = verdict.records.iter().map(|record| record.id).collect();
-    let not_carried = |id: &u16| !carried.contains(id);
-    let mut ids = BTreeSet::from([65_535]);
+/// 65535 and some that no record carries, also such as one has in its lower
+/// half. Of another pool a few.
+fn ids(verdict: &Verdict, effort: Effort) -> BTreeSet<u32> {
+    let carried: BTreeSet<u32> = (verdict.records.iter())
+        .map(|record| record.id.into())
+        .collect();
+    let not_carried = |id: &u32| !carried.contains(id);
+    let mut ids = BTreeSet::from([65_535, 65_536]);
     if effort >= Effort::Usual {
         ids.extend((1..=65_534).find(not_carried));
         ids.extend(carried.first());
@@ -108,6 +111,8 @@ fn ids(verdict: &Verdict, effort: Effort) -> BTreeSet<u16> {
         };
         ids.extend(carried.iter().step_by(carried.len().div_ceil(sample)));
         ids.extend(carried.last());
+        ids.extend(carried.last().map(|id| id | 1 << 16));
+        ids.extend(carried.first().map(|id| id | 1 << 31));
         ids.extend((1..=65_534).rev().find(not_carried));
     }
     ids

@@ -1,6 +1,6 @@
 //! One session call, by each side.
 
-use super::library::{impossible, session_in, Step, Value};
+use super::library::{impossible, session_in, unwritten, Step, Value};
 use crate::calls::{lent_table, untouched};
 use crate::lent::{Lent, LentArea, LentPool};
 use crate::library::{Of, ENTRY_WORDS};
@@ -30,27 +30,28 @@ impl Call {
     pub fn by_library(&self, value: Value, areas: &mut Areas) -> Result<(Step, Lent), String> {
         let Areas { staging, kept } = areas;
         let mut table = Lent::default();
-        let step = match self {
+        let mut step = unwritten();
+        let out = &mut step;
+        match self {
             Call::Offer(size) => {
-                c::session_offer(value, *size, staging.contents(), kept.contents())
+                c::session_offer(out, value, *size, staging.contents(), kept.contents());
             }
             Call::Transfer(piece) => {
                 let piece = LentPool::new(piece);
-                let step = c::session_transfer(value, piece.bytes(), staging.contents_mut());
+                c::session_transfer(out, value, piece.bytes(), staging.contents_mut());
                 if piece.is_changed() {
                     return Err("the piece was changed".into());
                 }
-                step
             }
             Call::Activate(words) => {
                 table = lent_table(&untouched(words / ENTRY_WORDS), *words);
                 let table = TableEntry::table(table.words());
-                c::session_activate(value, staging.contents(), kept.contents_mut(), table)
+                c::session_activate(out, value, staging.contents(), kept.contents_mut(), table);
             }
-            Call::Deactivate => c::session_deactivate(value),
-            Call::Delete => c::session_delete(value),
-            Call::Lost => c::session_lost(value),
-        };
+            Call::Deactivate => c::session_deactivate(out, value),
+            Call::Delete => c::session_delete(out, value),
+            Call::Lost => c::session_lost(out, value),
+        }
         Ok((step, table))
     }
 

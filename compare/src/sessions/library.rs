@@ -1,22 +1,57 @@
 //! The proved static library's sessions, by its bindings, and the second
 //! implementation's and the book's in the library's form.
 
-pub use lachsbrille::c::{ClientSession as Value, ClientStep as Step};
+pub use lachsbrille::c::{Session as Value, Step};
 
-use crate::library::Of;
-use second::{Book, Entry, Session, Stage};
+use crate::library::{Of, UNWRITTEN};
+use second::{Book, Entry, Fault, Session, Stage};
 
 /// Given for values that can't arise.
 const IMPOSSIBLE: u32 = 27;
 
+/// A step that no call gives: a field which is not written shows.
+pub fn unwritten() -> Step {
+    let session = Value {
+        announced: u32::MAX,
+        received: u32::MAX,
+        kept: u32::MAX,
+        stage: u16::MAX,
+        active: u16::MAX,
+    };
+    let fault = Fault {
+        record: u16::MAX,
+        rule: u8::MAX,
+        item: u16::MAX,
+    };
+    step(session, u32::MAX, UNWRITTEN, fault)
+}
+
+/// The library may come to give more in a step: what is not told here is as by
+/// default.
+fn step(session: Value, number: u32, place: usize, fault: Fault) -> Step {
+    let mut step = Step::default();
+    step.session = session;
+    step.number = number;
+    step.place = place;
+    step.record = fault.record;
+    step.rule = fault.rule.into();
+    step.item = fault.item;
+    step
+}
+
+/// A size of a session as the library has it.
+fn size(size: usize) -> u32 {
+    size.try_into().expect("a session's sizes have 32 bits")
+}
+
 impl Of<Session> for Value {
     fn of(session: Session) -> Self {
         Value {
-            stage: u32::from(session.stage == Stage::Offered),
+            announced: size(session.announced),
+            received: size(session.received),
+            kept: size(session.kept),
+            stage: (session.stage == Stage::Offered).into(),
             active: session.active.into(),
-            announced: session.announced,
-            received: session.received,
-            kept: session.kept,
         }
     }
 }
@@ -24,55 +59,34 @@ impl Of<Session> for Value {
 impl Of<&Book> for Value {
     fn of(book: &Book) -> Self {
         Value {
+            announced: size(book.offered().unwrap_or(0)),
+            received: size(book.arrived().len()),
+            kept: size(book.kept().len()),
             stage: book.offered().is_some().into(),
             active: book.is_active().into(),
-            announced: book.offered().unwrap_or(0),
-            received: book.arrived().len(),
-            kept: book.kept().len(),
         }
     }
 }
 
 impl Of<second::Step> for Step {
-    fn of(step: second::Step) -> Self {
-        let answer = step.answer;
-        Step {
-            session: Value::of(step.session),
-            number: answer.number.into(),
-            place: answer.place,
-            record: answer.fault.record,
-            rule: answer.fault.rule.into(),
-            item: answer.fault.item,
-        }
+    fn of(given: second::Step) -> Self {
+        let answer = given.answer;
+        let session = Value::of(given.session);
+        step(session, answer.number.into(), answer.place, answer.fault)
     }
 }
 
 /// The book after a call, and what it entered.
 impl Of<(&Book, Entry)> for Step {
     fn of((book, entry): (&Book, Entry)) -> Self {
-        let step = Step {
-            session: Value::of(book),
-            ..Step::default()
+        let none = Fault::default();
+        let (number, place, fault) = match entry {
+            Entry::Taken => (0, 0, none),
+            Entry::Refused(number) => (number, 0, none),
+            Entry::Unread(number, place) => (number, place, none),
+            Entry::Faulty(fault) => (24, 0, fault),
         };
-        match entry {
-            Entry::Taken => step,
-            Entry::Refused(number) => Step {
-                number: number.into(),
-                ..step
-            },
-            Entry::Unread(number, place) => Step {
-                number: number.into(),
-                place,
-                ..step
-            },
-            Entry::Faulty(fault) => Step {
-                number: 24,
-                record: fault.record,
-                rule: fault.rule.into(),
-                item: fault.item,
-                ..step
-            },
-        }
+        step(Value::of(book), number.into(), place, fault)
     }
 }
 
@@ -83,19 +97,15 @@ pub fn session_in(value: Value) -> Option<Session> {
         return None;
     }
     Some(Session {
-        stage: [Stage::None, Stage::Offered][value.stage as usize],
-        announced: value.announced,
-        received: value.received,
-        kept: value.kept,
+        stage: [Stage::None, Stage::Offered][usize::from(value.stage)],
+        announced: value.announced as usize,
+        received: value.received as usize,
+        kept: value.kept as usize,
         active: value.active == 1,
     })
 }
 
 /// The refusal of a value that can't arise.
 pub fn impossible(value: Value) -> Step {
-    Step {
-        session: value,
-        number: IMPOSSIBLE,
-        ..Step::default()
-    }
+    step(value, IMPOSSIBLE, 0, Fault::default())
 }

@@ -122,9 +122,10 @@ impl List {
     /// Mostly the next bytes of the pool, behind its end any.
     fn transfer(&mut self, value: &Value) -> Call {
         let rest = value.announced - value.received;
-        let length = self.piece_length(rest);
+        let length = self.piece_length(rest as usize);
         let pool = &self.pools[self.sent];
-        let mut piece: Vec<u8> = pool.iter().skip(value.received).copied().collect();
+        let received = value.received as usize;
+        let mut piece: Vec<u8> = pool.iter().skip(received).copied().collect();
         piece.truncate(length);
         piece.resize_with(length, || self.random.byte());
         Call::Transfer(piece)
@@ -155,7 +156,8 @@ impl List {
     }
 
     fn activate(&mut self, value: &Value, staging: &[u8]) -> Call {
-        let pool = staging.get(..value.received).unwrap_or(staging);
+        let received = value.received as usize;
+        let pool = staging.get(..received).unwrap_or(staging);
         Call::Activate(table_words(&mut self.random, pool))
     }
 }

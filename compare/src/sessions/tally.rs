@@ -152,7 +152,7 @@ impl Tally {
             (_, received) if received < value.announced => 2,
             _ => 3,
         };
-        let keeping = usize::from(value.kept > 0) + value.active as usize;
+        let keeping = usize::from(value.kept > 0) + usize::from(value.active);
         self.points[index(call)][offer * KEEPINGS.len() + keeping] += 1;
     }
 
@@ -221,15 +221,13 @@ fn branch(value: &Value, call: &Call, sides: &Sides, step: &Step) -> &'static st
     let (staging, kept) = (sides.staging().len(), sides.kept().len());
     match (step.number, call) {
         (27, _) => cause(value),
-        (0, Call::Offer(_)) => OFFER[value.stage as usize],
+        (0, Call::Offer(_)) => OFFER[usize::from(value.stage)],
         (20, Call::Offer(0)) => "20 for size 0",
         (20, Call::Offer(_)) => "20 for a size over 65,535",
         (26, Call::Offer(size)) => short_area(*size, staging, kept),
         (0, Call::Transfer(piece)) => {
-            match (
-                value.received,
-                value.received + piece.len() == value.announced,
-            ) {
+            let received = value.received as usize + piece.len();
+            match (value.received, received == value.announced as usize) {
                 (0, true) => "0 for the whole pool",
                 (0, false) => "0 for a first piece",
                 (_, false) => "0 for a piece between",
@@ -247,7 +245,7 @@ fn branch(value: &Value, call: &Call, sides: &Sides, step: &Step) -> &'static st
         (23, Call::Activate(_)) if value.received == 0 => "23 with nothing there",
         (24, Call::Activate(_)) => RULES.get(usize::from(step.rule)).unwrap_or(&RULES[0]),
         (26, Call::Activate(_)) if value.stage == 0 => "26 by the kept pool",
-        (26, Call::Activate(_)) => short_area(value.announced, staging, kept),
+        (26, Call::Activate(_)) => short_area(value.announced as usize, staging, kept),
         (0, _) => "0",
         (3, _) => "3",
         (4, _) => "4",
@@ -285,8 +283,8 @@ fn cause(value: &Value) -> &'static str {
     let holding = [
         value.stage > 1,
         value.active > 1,
-        value.announced > MAX_POOL_BYTES,
-        value.kept > MAX_POOL_BYTES,
+        value.announced as usize > MAX_POOL_BYTES,
+        value.kept as usize > MAX_POOL_BYTES,
         offered && value.announced == 0,
         offered && value.received > value.announced,
         value.active == 1 && value.kept == 0,

@@ -8,6 +8,9 @@ use super::lists::{lay, noise, pool, table_words};
 use crate::random::Random;
 use second::MAX_POOL_BYTES;
 
+/// The greatest size of a pool, as a value has it.
+const MOST: u32 = MAX_POOL_BYTES as u32;
+
 /// Areas are not longer, save for a few.
 const LONG_AREA: usize = 2_000;
 /// One in so many values has long areas.
@@ -51,37 +54,41 @@ fn possible(random: &mut Random) -> (Value, Vec<u8>) {
     let pool = pool(random);
     let mut value = Value::default();
     if random.below(10) < 7 {
-        let any = random.between(1, MAX_POOL_BYTES);
-        let length = pool.len().clamp(1, MAX_POOL_BYTES);
+        let any = between(random, 1, MOST);
+        let length = pool.len().clamp(1, MAX_POOL_BYTES) as u32;
         value.stage = 1;
-        value.announced = random.pick(&[length, length, length, length, any, 1, MAX_POOL_BYTES]);
-        let some = random.between(0, value.announced);
+        value.announced = random.pick(&[length, length, length, length, any, 1, MOST]);
+        let some = between(random, 0, value.announced);
         let all = value.announced;
         value.received = random.pick(&[all, all, all, all - 1, some, 0]);
     }
     if !random.one_in(3) {
-        let some = random.between(1, 300);
-        let any = random.between(1, MAX_POOL_BYTES);
-        value.kept = random.pick(&[some, some, some, any, 1, MAX_POOL_BYTES]);
-        value.active = random.below(2) as u32;
+        let some = between(random, 1, 300);
+        let any = between(random, 1, MOST);
+        value.kept = random.pick(&[some, some, some, any, 1, MOST]);
+        value.active = random.below(2) as u16;
     }
     (value, pool)
+}
+
+fn between(random: &mut Random, low: u32, high: u32) -> u32 {
+    random.between(low as usize, high as usize) as u32
 }
 
 /// Changes the value so that it can't arise. A number too large is often
 /// right once its upper bits are gone.
 fn spoil(random: &mut Random, value: &mut Value) {
     let way = random.below(WAYS);
-    let upper = random.pick(&[1, 2, 1 << 16, 1 << 47]) * (MAX_POOL_BYTES + 1);
-    let too_large = |number: usize| number % (MAX_POOL_BYTES + 1) + upper;
+    let upper = random.pick(&[1, 2, 1 << 8, 1 << 15]) * (MOST + 1);
+    let too_large = |number: u32| number % (MOST + 1) + upper;
     match way {
-        0 => value.stage = random.pick(&[2, 3, 256, 257, 65_536, 65_537, u32::MAX]),
-        1 => value.active = random.pick(&[2, 3, 256, 257, 65_536, 65_537, u32::MAX]),
+        0 => value.stage = random.pick(&[2, 3, 256, 257, 32_768, 32_769, u16::MAX]),
+        1 => value.active = random.pick(&[2, 3, 256, 257, 32_768, 32_769, u16::MAX]),
         2 => {
             value.stage = 1;
-            value.announced = random.pick(&[upper, too_large(value.announced), usize::MAX]);
+            value.announced = random.pick(&[upper, too_large(value.announced), u32::MAX]);
         }
-        3 => value.kept = random.pick(&[upper, too_large(value.kept), usize::MAX]),
+        3 => value.kept = random.pick(&[upper, too_large(value.kept), u32::MAX]),
         4 => {
             value.stage = 1;
             value.announced = 0;
@@ -91,7 +98,7 @@ fn spoil(random: &mut Random, value: &mut Value) {
             value.stage = 1;
             value.announced = value.announced.max(1);
             let over = value.announced.saturating_add(random.pick(&[1, 1, 7]));
-            value.received = random.pick(&[over, too_large(over), usize::MAX]);
+            value.received = random.pick(&[over, too_large(over), u32::MAX]);
         }
         6 => {
             value.active = 1;
@@ -117,7 +124,7 @@ fn area_length(random: &mut Random, value: &Value, long: bool) -> usize {
     } else {
         LONG_AREA
     };
-    let wanted = random.pick(&[value.announced, value.announced, value.kept]);
+    let wanted = random.pick(&[value.announced, value.announced, value.kept]) as usize;
     let any = random.between(0, 300);
     let length = match random.below(12) {
         0 => 0,
@@ -139,14 +146,14 @@ fn call(random: &mut Random, value: &Value, staging: &[u8], kept: &[u8]) -> Call
             Call::Offer(random.pick(&sizes))
         }
         2..=4 => {
-            let rest = value.announced.wrapping_sub(value.received);
+            let rest = value.announced.wrapping_sub(value.received) as usize;
             let rest = rest.min(LONG_AREA);
             let any = random.between(0, rest);
             let length = random.pick(&[rest, rest + 1, any, any, 0, 1, 7]);
             Call::Transfer(noise(random, length))
         }
         5..=6 => {
-            let length = value.received.min(staging.len());
+            let length = (value.received as usize).min(staging.len());
             Call::Activate(table_words(random, &staging[..length]))
         }
         7 => Call::Deactivate,

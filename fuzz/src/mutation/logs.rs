@@ -4,14 +4,17 @@ use super::put;
 use crate::logs::{count_at, ARGUMENTS};
 use compare::random::Random;
 
-const LAYOUT_AT: usize = 1;
-const LOGGED_AT: usize = 3;
+const WIDE_AT: usize = 1;
+const LAYOUT_AT: usize = 2;
+const LOGGED_AT: usize = 4;
 /// The record's first byte in an input that is read.
 const RECORD_AT: usize = 1 + ARGUMENTS;
 const PAIR_BYTES: usize = 5;
 /// The first byte of the fields in an input that is written, and of the pairs.
-const FIELDS_AT: usize = 9;
+const FIELDS_AT: usize = 10;
 const PAIRS_AT: usize = FIELDS_AT + 30;
+/// One change in so many is to the upper bits of the layout.
+const WIDE_ONE_IN: usize = 40;
 const TIMES: [i32; 4] = [0, 86_399_999, 86_400_000, -1];
 const PLACES: [i32; 8] = [
     900_000_000,
@@ -31,8 +34,9 @@ pub fn mutate_read(random: &mut Random, input: &mut Vec<u8>) -> bool {
         return false;
     }
     let layout = word(input, LAYOUT_AT);
-    let count_at = RECORD_AT + count_at(layout);
+    let count_at = RECORD_AT + count_at(layout.into());
     match random.below(8) {
+        _ if random.one_in(WIDE_ONE_IN) => input[WIDE_AT] = random.below(4) as u8,
         0 => put(input, RECORD_AT, &random.pick(&TIMES).to_le_bytes()),
         1 => {
             let place = RECORD_AT + 6 + random.pick(&[0, 4]);
@@ -74,6 +78,7 @@ pub fn mutate_written(random: &mut Random, input: &mut Vec<u8>) -> bool {
     }
     let layout = word(input, LAYOUT_AT);
     match random.below(8) {
+        _ if random.one_in(WIDE_ONE_IN) => input[WIDE_AT] = random.below(4) as u8,
         0 => put(input, FIELDS_AT, &random.pick(&TIMES).to_le_bytes()),
         1 => {
             let place = FIELDS_AT + 6 + random.pick(&[0, 4]);
@@ -88,7 +93,7 @@ pub fn mutate_written(random: &mut Random, input: &mut Vec<u8>) -> bool {
         }
         5 => {
             // The room, the count and the lists.
-            let place = 5 + random.below(4);
+            let place = 6 + random.below(4);
             input[place] = random.pick(&[0, 0, 1, 2, 254, 255]);
         }
         6 => input.truncate(PAIRS_AT.max(input.len() - PAIR_BYTES)),

@@ -1,7 +1,7 @@
 //! Changes to the records of a pool.
 
 use super::{put, texts};
-use crate::pools::{COMMAND_AT, DDI_AT, ELEMENT_AT, ID_AT, VALUE_AT};
+use crate::pools::{COMMAND_AT, DDI_AT, ELEMENT_AT, ID_AT, VALUE_AT, WIDE_AT};
 use crate::Group;
 use compare::objects::{Object, GREATEST_SCALE, LEAST_SCALE};
 use compare::random::Random;
@@ -252,4 +252,8 @@ fn ask_for_known(random: &mut Random, arguments: &mut [u8], records: &[Whole]) {
     );
     ask(COMMAND_AT, &[random.below(16) as u8]);
     ask(VALUE_AT, &random.pick(&[i32::MIN, -1, 0, 1]).to_le_bytes());
+    ask(
+        WIDE_AT,
+        &[random.pick(&[0, 0, 0, 0, 0, 0, 1, 1 << 2, 1 << 4])],
+    );
 }

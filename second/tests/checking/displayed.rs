@@ -35,7 +35,7 @@ fn the_limits_belong_to_the_range() {
             assert_eq!(result, Err(50));
         }
     }
-    for decimals in 8..=255 {
+    for decimals in (8..=255).chain([256, 257, 65_536, 1 << 31]) {
         assert_eq!(displayed(3, 4, 1.0, decimals), Err(50));
     }
 }

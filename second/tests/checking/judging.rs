@@ -11,7 +11,7 @@ const UNTOUCHED: Record = Record {
 };
 
 /// The judgement of a command to an element and a DDI, with its value.
-fn judged(pool: &[u8], command: u8, element: u16, ddi: u16, value: i32) -> Result<u8, u8> {
+fn judged(pool: &[u8], command: u32, element: u32, ddi: u16, value: i32) -> Result<u8, u8> {
     judge(pool, &mut table_for(pool), command, element, ddi, value)
 }
 
@@ -42,7 +42,22 @@ fn the_worked_commands_are_judged() {
 #[test]
 fn the_first_match_decides() {
     let pool = pool_q();
-    for command in [0, 1, 9, 11, 12, 13, 14, 15, 16, 18, 255] {
+    for command in [
+        0,
+        1,
+        9,
+        11,
+        12,
+        13,
+        14,
+        15,
+        16,
+        18,
+        255,
+        259,
+        65_539,
+        1 << 31,
+    ] {
         assert_eq!(judged(&pool, command, 9, 9, -1), Ok(0x01));
         assert_eq!(judged(&pool, command, 1, 141, 0), Ok(0x01));
     }
@@ -65,7 +80,7 @@ fn every_property_and_trigger_is_judged() {
             let settable = properties / 2 % 2 == 1;
             let set = |bit: u32| triggers / 2_u8.pow(bit) % 2 == 1;
             for value in [i32::MIN, -1, 0, 1, i32::MAX] {
-                let expect = |command: u8, error: u8| {
+                let expect = |command: u32, error: u8| {
                     assert_eq!(judged(&pool, command, 7, 141, value), Ok(error));
                 };
                 let interval = if value < 0 { 0x20 } else { 0 };
@@ -104,7 +119,7 @@ fn a_property_is_never_settable_and_has_no_trigger() {
 #[test]
 fn an_element_over_4095_is_32_before_the_pool() {
     for pool in [vec![], pool_p(), pool_p()[..31].to_vec()] {
-        for element in [4_096, 8_191, 65_535] {
+        for element in [4_096, 8_191, 65_535, 65_536, 65_554, 1 << 31] {
             let mut table = [UNTOUCHED; 3];
             assert_eq!(judge(&pool, &mut table, 0, element, 0, 0), Err(32));
             assert_eq!(table, [UNTOUCHED; 3]);

@@ -46,12 +46,12 @@ impl Tape<'_> {
     }
 }
 
-fn marked(layout: u16, mark: u32) -> bool {
-    u32::from(layout) / 2_u32.pow(mark) % 2 == 1
+fn marked(layout: u32, mark: u32) -> bool {
+    layout / 2_u32.pow(mark) % 2 == 1
 }
 
 /// What has limits, in the order of the refusals 41 to 45.
-fn judged(layout: u16, fields: &LogFields, ordinals: &[u8], logged: usize) -> Result<(), u8> {
+fn judged(layout: u32, fields: &LogFields, ordinals: &[u8], logged: usize) -> Result<(), u8> {
     let north = i64::from(fields.north);
     let east = i64::from(fields.east);
     if fields.time >= 24 * 60 * 60 * 1_000 {
@@ -76,7 +76,7 @@ fn judged(layout: u16, fields: &LogFields, ordinals: &[u8], logged: usize) -> Re
 }
 
 /// The record at the start of the bytes, or 40 to 45 or 47.
-pub fn decode(bytes: &[u8], layout: u16, logged: usize) -> Result<Decoded, u8> {
+pub fn decode(bytes: &[u8], layout: u32, logged: usize) -> Result<Decoded, u8> {
     if layout >= 512 {
         return Err(47);
     }
@@ -123,7 +123,7 @@ pub fn decode(bytes: &[u8], layout: u16, logged: usize) -> Result<Decoded, u8> {
 }
 
 /// The bytes of a record whose parts are not judged.
-pub fn encode(layout: u16, fields: &LogFields, entries: &[(u8, i32)]) -> Vec<u8> {
+pub fn encode(layout: u32, fields: &LogFields, entries: &[(u8, i32)]) -> Vec<u8> {
     let numbers = [
         i64::from(fields.north),
         i64::from(fields.east),
@@ -153,7 +153,7 @@ pub fn encode(layout: u16, fields: &LogFields, entries: &[(u8, i32)]) -> Vec<u8>
     bytes
 }
 
-fn decode_log(mut bytes: &[u8], layout: u16, logged: usize) -> Result<usize, LogRefusal> {
+fn decode_log(mut bytes: &[u8], layout: u32, logged: usize) -> Result<usize, LogRefusal> {
     let whole = bytes.len();
     let mut records = 0;
     if let Err(47) = decode(&[], layout, logged) {
@@ -173,7 +173,7 @@ fn decode_log(mut bytes: &[u8], layout: u16, logged: usize) -> Result<usize, Log
 /// Draws records that are mostly sound and often at a limit.
 struct Maker {
     random: Random,
-    layout: u16,
+    layout: u32,
     logged: usize,
 }
 
@@ -181,7 +181,7 @@ impl Maker {
     fn new(index: u64) -> Self {
         let state = SEED.wrapping_add(index << 32);
         let mut random = Random { state };
-        let layout = random.below(512) as u16;
+        let layout = random.below(512) as u32;
         let logged = random.pick(&[0, 1, 2, 7, 128, 254, 255, 256, usize::MAX]);
         Maker {
             random,
@@ -261,9 +261,15 @@ impl Maker {
             bytes.extend((0..added).map(|_| self.random.draw() as u8));
         }
         if self.random.one_in(40) {
-            self.layout = self.random.draw() as u16;
+            self.layout = any_layout(&mut self.random);
         }
     }
+}
+
+/// Any layout; a third of them is in range once its upper half is gone.
+fn any_layout(random: &mut Random) -> u32 {
+    let any = random.draw() as u32;
+    random.pick(&[any, any % 0x1_0000, 0x1_0000 | (any % 512)])
 }
 
 /// A refusal counts by its number, an answer as 0.
@@ -313,7 +319,7 @@ fn random_records_are_written_alike() {
         let fewer = maker.random.below(entries.len() + 1);
         let count = maker.random.pick(&[entries.len(), fewer]) + usize::from(index % 16 == 0);
         if maker.random.one_in(40) {
-            maker.layout = maker.random.draw() as u16;
+            maker.layout = any_layout(&mut maker.random);
         }
         let (layout, logged) = (maker.layout, maker.logged);
         let room = maker.random.pick(&[20, 40, 1_400, 1_400, 1_400]);

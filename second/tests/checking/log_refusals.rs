@@ -92,7 +92,7 @@ fn unmarked_fields_are_not_judged() {
         ..BAD_FIELDS
     };
     for layout in 0..512 {
-        let marked = |mark: u16| layout >> mark & 1 == 1;
+        let marked = |mark: u32| layout >> mark & 1 == 1;
         let length = head_bytes(layout);
         let expected = match (marked(0), marked(1), marked(3)) {
             (true, _, _) => Err(42),
@@ -181,7 +181,7 @@ fn only_the_first_values_are_written() {
 }
 
 /// Records of all sizes, and where each starts.
-fn log_of_all_counts(layout: u16) -> (Vec<u8>, Vec<usize>) {
+fn log_of_all_counts(layout: u32) -> (Vec<u8>, Vec<usize>) {
     let mut log = Vec::new();
     let mut starts = Vec::new();
     for count in COUNTS.into_iter().chain([5, 0, 0, 40]) {

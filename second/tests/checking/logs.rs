@@ -8,8 +8,8 @@ use second::{
 
 const VECTOR: &str = include_str!("../../../vectors/log-000-d49.hex");
 /// North, east and status.
-const VECTOR_LAYOUT: u16 = 0x00B;
-pub const ALL: u16 = 0x1FF;
+const VECTOR_LAYOUT: u32 = 0x00B;
+pub const ALL: u32 = 0x1FF;
 /// Sizes of records around what may be looked at together.
 pub const COUNTS: [usize; 14] = [0, 1, 2, 3, 7, 8, 15, 16, 17, 31, 32, 33, 254, 255];
 
@@ -50,7 +50,7 @@ impl Lent {
         }
     }
 
-    pub fn read(&mut self, bytes: &[u8], layout: u16, logged: usize) -> Result<LogRecord, u8> {
+    pub fn read(&mut self, bytes: &[u8], layout: u32, logged: usize) -> Result<LogRecord, u8> {
         let Lent { ordinals, values } = self;
         read_record(bytes, layout, logged, ordinals, values)
     }
@@ -72,7 +72,7 @@ impl Lent {
 }
 
 /// Asserts that reading refuses and changes nothing.
-fn assert_refused(bytes: &[u8], layout: u16, logged: usize, number: u8) {
+fn assert_refused(bytes: &[u8], layout: u32, logged: usize, number: u8) {
     let mut lent = Lent::new(255, 255);
     assert_eq!(lent.read(bytes, layout, logged), Err(number));
     assert!(lent.is_untouched());
@@ -81,7 +81,7 @@ fn assert_refused(bytes: &[u8], layout: u16, logged: usize, number: u8) {
 /// Writes entries with a buffer of that size, and gives the buffer too.
 pub fn written(
     room: usize,
-    layout: u16,
+    layout: u32,
     fields: &LogFields,
     logged: usize,
     entries: &[(u8, i32)],
@@ -101,8 +101,8 @@ pub fn entries(count: usize) -> Vec<(u8, i32)> {
 }
 
 /// The fields as they are read back.
-fn without_unmarked(layout: u16, fields: &LogFields) -> LogFields {
-    let marked = |mark: u16| i64::from(layout >> mark & 1);
+fn without_unmarked(layout: u32, fields: &LogFields) -> LogFields {
+    let marked = |mark: u32| i64::from(layout >> mark & 1);
     LogFields {
         time: fields.time,
         days: fields.days,
@@ -118,7 +118,7 @@ fn without_unmarked(layout: u16, fields: &LogFields) -> LogFields {
     }
 }
 
-pub fn head_bytes(layout: u16) -> usize {
+pub fn head_bytes(layout: u32) -> usize {
     let marked = (0..9).filter(|mark| layout >> mark & 1 == 1);
     7 + marked.map(|mark| WIDTHS[mark]).sum::<usize>()
 }
@@ -155,7 +155,7 @@ fn the_vector_is_read_and_written() {
 
 #[test]
 fn marks_are_counted_or_the_layout_refused() {
-    for layout in 0..=u16::MAX {
+    for layout in (0..=0xFFFF).chain([0x1_0000, 0x1_0001, 0x1_01FF, 0x8000_0000, u32::MAX]) {
         let count = format!("{layout:b}").matches('1').count() as u32;
         let expected = if layout < 512 { Ok(count) } else { Err(47) };
         assert_eq!(optional_fields(layout), expected);

@@ -1,5 +1,5 @@
-//! Tests of checking, texts, labels, sessions, messages, displayed values and
-//! time logs through the public functions.
+//! Tests of checking, texts, labels, fields, sessions, messages, displayed
+//! values and time logs through the public functions.
 
 mod buffers;
 mod chains;
@@ -20,5 +20,6 @@ mod session_lists;
 mod sessions;
 mod utf8;
 mod vectors;
+mod views;
 mod whole;
 mod worked_lines;

@@ -4,7 +4,9 @@ use second::{read_message, write_acknowledge, write_value, Message};
 use std::collections::HashMap;
 
 const VECTORS: &str = include_str!("../../../vectors/messages.txt");
-const COMMANDS: [u8; 8] = [2, 3, 4, 5, 6, 7, 8, 10];
+const COMMANDS: [u32; 8] = [2, 3, 4, 5, 6, 7, 8, 10];
+/// In their lowest 12 bits these are 0: cut to fewer they would be in range.
+const TOO_WIDE: [u32; 4] = [1 << 12, 1 << 16, 1 << 24, 1 << 31];
 
 /// Lines with their bytes, where they stand and what is expected.
 fn read_lines() -> Vec<(Vec<u8>, &'static str)> {
@@ -58,12 +60,12 @@ fn described(result: Result<Message, u8>) -> String {
 /// Writes what a line asks for, with as many bytes lent.
 fn write(line: &str, to: &mut [u8]) -> Result<(), u8> {
     let fields = fields(line);
-    let (element, ddi) = (fields["elem"] as u16, fields["ddi"] as u16);
+    let (element, ddi) = (fields["elem"] as u32, fields["ddi"] as u16);
     if line.starts_with("write value") {
-        let command = fields["cmd"] as u8;
+        let command = fields["cmd"] as u32;
         write_value(to, command, element, ddi, fields["value"] as i32)
     } else {
-        let (errors, answered) = (fields["err"] as u8, fields["answered"] as u8);
+        let (errors, answered) = (fields["err"] as u8, fields["answered"] as u32);
         write_acknowledge(to, element, ddi, errors, answered)
     }
 }
@@ -125,8 +127,8 @@ fn every_command_and_element_is_read() {
     for first in 0..=255_u8 {
         for second in 0..=255_u8 {
             let bytes = [first, second, 0x34, 0x12, 0x78, 0x56, 0x34, 0x92];
-            let command = first % 16;
-            let element = u16::from(first / 16) + 16 * u16::from(second);
+            let command = u32::from(first % 16);
+            let element = u32::from(first / 16) + 16 * u32::from(second);
             let (ddi, value) = (0x1234, 0x9234_5678_u32 as i32);
             let expected = match command {
                 13 => Ok(Message::Acknowledge {
@@ -170,7 +172,7 @@ fn what_is_written_is_read_back() {
             let mut to = [0; 8];
             let written = write_acknowledge(&mut to, element, 513, errors, answered);
             assert_eq!(written, Ok(()));
-            assert_eq!(to[5..], [0xF0 + answered, 0xFF, 0xFF]);
+            assert_eq!(to[5..], [0xF0 + answered as u8, 0xFF, 0xFF]);
             let expected = Message::Acknowledge {
                 element,
                 ddi: 513,
@@ -186,17 +188,19 @@ fn what_is_written_is_read_back() {
 fn refusals_to_write_come_in_order_and_leave_the_buffer() {
     for length in 0..12 {
         let short = if length < 8 { Err(33) } else { Ok(()) };
-        for command in 0..=255 {
+        for command in (0..=260).chain(TOO_WIDE.map(|upper| upper + 3)) {
             let known = COMMANDS.contains(&command);
-            for (element, fits) in [(4_095, short), (4_096, Err(32)), (65_535, Err(32))] {
+            let bad = [8_191, 65_535, 65_554].into_iter().chain(TOO_WIDE);
+            let elements = bad.map(|element| (element, Err(32)));
+            for (element, fits) in elements.chain([(4_095, short)]) {
                 let mut to = vec![0xA5; length];
                 let expected = if known { fits } else { Err(31) };
                 assert_eq!(write_value(&mut to, command, element, 0, 0), expected);
                 assert!(expected.is_ok() || to == vec![0xA5; length]);
             }
         }
-        for answered in 0..=255 {
-            for element in [0, 4_095, 4_096, 65_535] {
+        for answered in (0..=260).chain(TOO_WIDE) {
+            for element in [0, 4_095, 8_191, 65_535].into_iter().chain(TOO_WIDE) {
                 let mut to = vec![0xA5; length];
                 let fits = element < 4_096 && answered < 16;
                 let expected = if fits { short } else { Err(32) };

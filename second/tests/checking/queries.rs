@@ -14,7 +14,7 @@ const UNTOUCHED: Record = Record {
 fn a_text_is_a_part_of_the_pool() {
     let pool = pool_of_all_kinds();
     assert!(faults(&pool).is_empty());
-    let cases: [(u16, &[u8]); 6] = [
+    let cases: [(u32, &[u8]); 6] = [
         (0, b"Spr\xC3\xBChger"),
         (1, b"all"),
         (2, b""),
@@ -41,7 +41,7 @@ fn a_text_lies_where_its_record_has_it() {
 #[test]
 fn an_id_that_no_record_has_is_28() {
     let pool = pool_q();
-    for id in [4, 256, 65_534, 65_535] {
+    for id in [4, 256, 65_534, 65_535, 65_536, 65_537, 1 << 31] {
         assert_eq!(text(&pool, &mut table_for(&pool), id), Err(28));
     }
 }
