@@ -21,11 +21,11 @@
  *
  *     read                 11,100
  *     check                57,100
- *     text                 57,200
+ *     text                 57,300
  *     labels               57,500
  *     judge                57,400
- *     session_activate     57,300
- *     the others              600
+ *     session_activate     57,200
+ *     the others              300
  *
  * Refusals. A call gives 0 or a refusal's number; where several apply, the one that stands first in its list below. Unless said
  * otherwise a refusal changes no lent memory, and lent numbers and the other fields of a result are 0. A number that may be out of
