@@ -6,3 +6,4 @@ pub mod Marks
 pub mod Records
 pub mod Exact
 pub mod Unique
+pub mod Written

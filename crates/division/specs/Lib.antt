@@ -3,3 +3,4 @@ pub mod Whole
 pub mod Bad
 pub mod Division
 pub mod Claims
+pub mod Written

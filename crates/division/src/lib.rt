@@ -4,6 +4,7 @@ ghost use mathlib.Core.List.{List};
 ghost use Prim.Native.Nat.{ℕ, _≤_};
 ghost use lib.ListN.{length};
 ghost use Rattle.division.specs.Claims.{Unique, Shortest, Exactly};
+ghost use Rattle.division.specs.Written.{WholeAreWritten};
 
 pub fn division_is_unique()
     ensures { λ _. ⌜ Unique ⌝ }
@@ -15,4 +16,8 @@ pub fn no_record_is_shorter()
 
 pub fn extents_are_exact()
     ensures { λ _. ⌜ ((p : List ℕ) (at : ℕ) → at ≤ length p → Exactly p at) ⌝ }
+{}
+
+pub fn whole_records_are_written()
+    ensures { λ _. ⌜ WholeAreWritten ⌝ }
 {}
