@@ -3,19 +3,18 @@ use Prim.Native.Nat.{ℕ, _≤_, _<_}
 use mathlib.Core.Path.{_≡_, refl}
 use mathlib.Core.Bool.{Bool, true}
 use mathlib.Core.Logic.{_↔_}
-use mathlib.Core.List.{List, _++_, map}
+use mathlib.Core.List.{List}
 use denote.Ref.{RefT, now, at-last}
 use contract.Lifetimes.{Lfts}
 use lib.IntN.{ℤ}
-use lib.ListN.{length, drop}
-use Rattle.division.specs.Division.{Division, Divides}
+use lib.ListN.{length}
+use Rattle.division.specs.Division.{Division}
 use Rattle.pool.specs.Answer.{answer}
 use Rattle.pool.specs.Reading.{readOf}
 use Rattle.working_table.specs.declared.Record.{Record}
-use Rattle.working_table.specs.Table.{recordOf}
 use Rattle.text.specs.Examined.{Sound}
 use Rattle.checker.specs.Checking.{checkOf, faultsAfter}
-use Rattle.claims.specs.Reads.{listed, Sized, Reads}
+use Rattle.claims.specs.Reads.{Sized, Filled, Reads}
 use Rattle.claims.specs.Checks.{Checked}
 use Rattle.device.specs.Queries.{Labelled}
 use Rattle.device.specs.declared.DeviceLabels.{DeviceLabels}
@@ -48,12 +47,6 @@ labels-says = record { Learnt = _; exact = λ w. refl }
 
 abbrev pub judge-says : Says judge-c.ended (λ M. judge-c.clauses)
 judge-says = record { Learnt = _; exact = λ w. refl }
-
--- the table after a call that reads a pool: where the pool has a size that can be read, divides into records and the table holds
--- them, it starts with their entries and later ones stay; else all of it stays
-pub record Filled (p : List ℕ) (table left : List Record) : Type 0 where
-  pub read : (rs : List (List ℕ)) (d : Division p rs) → Sized p → length rs ≤ length table → left ≡ map recordOf (listed rs (d .whole) 0) ++ drop (length rs) table
-  pub stays : ((d : Divides p) → Sized p → length (d .parts) ≤ length table → ⊥) → left ≡ table
 
 -- a pool read: number and value are reading's answer, of which `Reads` says by the division alone what it means
 pub record ReadInto (p : List ℕ) (before : List Record) (number value : ℕ) (left : List Record) : Type 0 where

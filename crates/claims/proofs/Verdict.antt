@@ -12,6 +12,7 @@ use Rattle.pool.specs.Answer.{Answer, answer}
 use Rattle.pool.specs.Reading.{records, scanOf, entriesIn, pick, readOf}
 use Rattle.pool.proofs.Judged.{read-empty, read-long, read-walk}
 use Rattle.claims.specs.Reads.{listed, Bad, Bad.unmarked as bad-mark, Bad.cut as bad-cut, Bad.over as bad-over, Earliest, Sized, Reads}
+use Rattle.claims.proofs.Filled.{filled}
 use Rattle.claims.proofs.Passing.{scan-whole, scan-bad}
 use Rattle.claims.proofs.Sorting.{Sorted, divided, broken, sorted, few, divides, listed-length}
 
@@ -102,6 +103,7 @@ reading p room =
     record {
       read = λ n. (means p room 0 n, read-fits p room n);
       entries = λ rs d. ap entriesIn (scan-parts p rs d);
+      table = λ t. filled p t (λ n. (means p (length t) 0 n, read-fits p (length t) n)) (λ rs d. ap entriesIn (scan-parts p rs d));
       empty = (means p room 1 0, read-empty p room);
       long = (means p room 2 0, read-long p room);
       refused = λ number place h. (λ e. bad-meant p room number place (h .0) (h .1) (means p room number place e), read-bad p room number place);

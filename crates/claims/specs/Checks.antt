@@ -1,15 +1,24 @@
 -- Checking, said by the division of a pool and by what a breach is: document 01, "The rule table". Definitions only.
-use Prim.Native.Nat.{ℕ, _≤_}
+use Prim.Native.Nat.{ℕ, suc, _*_, _≤_, _<_}
 use mathlib.Core.Path.{_≡_}
-use mathlib.Core.Logic.{_↔_}
-use mathlib.Core.List.{List, List·Memᴰ}
-use lib.ListN.{length}
+use mathlib.Core.Logic.{_↔_, _⊎_}
+use mathlib.Core.List.{List, _++_, List·Memᴰ}
+use lib.ListN.{length, take, drop}
 use Rattle.division.specs.Division.{Division}
 use Rattle.pool.specs.Answer.{answer}
-use Rattle.faults.specs.Faults.{Fault, written, Ascending}
+use Rattle.faults.specs.Faults.{Fault, width, flat, Ascending}
 use Rattle.rules.specs.Breach.{Breach}
 use Rattle.checker.specs.Checking.{checkOf, faultsAfter}
 use Rattle.claims.specs.Reads.{listed, Sized}
+
+-- a buffer after some faults: the numbers of the first ones, one fault after the other, and then what stood there before. These are
+-- all faults, or so many that there is no room for a further one
+pub record Holds (before : List ℕ) (faults : List Fault) (after : List ℕ) : Type 0 where
+  pub count : ℕ
+  pub some : count ≤ length faults
+  pub fits : width * count ≤ length before
+  pub most : (count ≡ length faults) ⊎ (length before < width * suc count)
+  pub same : after ≡ flat (take count faults) ++ drop (width * count) before
 
 -- there is one list of faults, by which checking answers and fills the buffer
 pub record Checked (p : List ℕ) (rs : List (List ℕ)) (d : Division p rs) (room : ℕ) : Type 0 where
@@ -19,7 +28,7 @@ pub record Checked (p : List ℕ) (rs : List (List ℕ)) (d : Division p rs) (ro
   pub ascending : Ascending faults
   -- the full count is its length, and a buffer gets its first ones, as many as fit
   pub count : checkOf p room ≡ answer 0 (length faults)
-  pub buffer : (before : List ℕ) → faultsAfter p room before ≡ written before faults
+  pub buffer : (before : List ℕ) → Holds before faults (faultsAfter p room before)
 
 -- of every pool of 1 to 65,535 bytes that divides into records, with a table that holds them
 abbrev pub Checks : Type 0

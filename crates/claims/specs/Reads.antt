@@ -3,7 +3,7 @@
 use Prim.Native.Nat.{ℕ, _+_, _≤_, _<_}
 use mathlib.Core.Path.{_≡_}
 use mathlib.Core.Logic.{_↔_}
-use mathlib.Core.List.{List, [], _∷_, _++_}
+use mathlib.Core.List.{List, [], _∷_, _++_, map}
 use lib.ListN.{length, take, drop}
 use Rattle.wire.specs.Bytes.{leOf}
 use Rattle.records.specs.Layout.{kindNumber}
@@ -12,6 +12,8 @@ use Rattle.division.specs.Bad.{Unmarked, CutShort, OverLimit}
 use Rattle.division.specs.Division.{AllWhole, joined, Division, Divides}
 use Rattle.pool.specs.Answer.{answer}
 use Rattle.pool.specs.Reading.{Entry, readOf, scanOf, entriesIn}
+use Rattle.working_table.specs.declared.Record.{Record}
+use Rattle.working_table.specs.Table.{recordOf, recordsAfter}
 
 -- the entries of records that stand back to back from a place on: start, length, kind and ID of each
 abbrev pub listed : (rs : List (List ℕ)) → AllWhole rs → ℕ → List Entry
@@ -38,12 +40,19 @@ pub record Earliest (p : List ℕ) (number place : ℕ) : Type 0 where
 abbrev pub Sized : List ℕ → Type 0
 Sized p = (1 ≤ length p) × (length p ≤ 65535)
 
+-- the table after a call that reads a pool: where the pool has a size that can be read, divides into records and the table holds
+-- them, it starts with their entries and later ones stay; else all of it stays
+pub record Filled (p : List ℕ) (table left : List Record) : Type 0 where
+  pub read : (rs : List (List ℕ)) (d : Division p rs) → Sized p → length rs ≤ length table → left ≡ map recordOf (listed rs (d .whole) 0) ++ drop (length rs) table
+  pub stays : ((d : Divides p) → Sized p → length (d .parts) ≤ length table → ⊥) → left ≡ table
+
 -- reading, by the division alone
 pub record Reads (p : List ℕ) (room : ℕ) : Type 0 where
   -- it succeeds exactly if the pool is 1 to 65,535 bytes, divides into records and the table holds them; the count is theirs
   pub read : (n : ℕ) → (readOf p room ≡ answer 0 n) ↔ (Sized p × ((d : Divides p) × (length (d .parts) ≡ n) × (n ≤ room)))
-  -- and the entries are the division's
+  -- and the entries are the division's, which a table then starts with
   pub entries : (rs : List (List ℕ)) (d : Division p rs) → entriesIn (scanOf p) ≡ listed rs (d .whole) 0
+  pub table : (table : List Record) → Filled p table (recordsAfter p table)
   pub empty : (readOf p room ≡ answer 1 0) ↔ (length p ≡ 0)
   pub long : (readOf p room ≡ answer 2 0) ↔ (65535 < length p)
   -- 3, 4 and 5 speak of the earliest bad record

@@ -12,9 +12,12 @@ use Rattle.text.proofs.Examining.{examined}
 use Rattle.claims.proofs.Verdict.{reading}
 use Rattle.claims.proofs.Checking.{checking}
 use Rattle.commands.specs.Tables.{judgedRecords}
-use Rattle.c_functions.proofs.Filled.{filled}
+use Rattle.claims.specs.Reads.{Filled}
 use Rattle.c_functions.proofs.pools_are_answered.Statement.{statement}
 use Rattle.c_functions.proofs.pools_are_answered.Tie as tie
+
+filled : (p : List ℕ) (table left : List Record) → left ≡ recordsAfter p table → Filled p table left
+filled p table left e = rw e (reading p (length table) .table table)
 
 looked : (p : List ℕ) (table : List Record) (element : ℕ) → element ≤ 4095 → judgedRecords p table element ≡ recordsAfter p table
 unfolding judgedRecords
