@@ -1,0 +1,2 @@
+-- What the contracts of `query_claims` cite.
+pub mod Texts

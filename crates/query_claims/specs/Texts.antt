@@ -1,0 +1,75 @@
+-- Texts and labels of an accepted pool, by the records that it divides into and the parts that these are written of. Definitions only.
+use Prim.Native.Nat.{ℕ, _-_}
+use mathlib.Core.Path.{_≡_}
+use mathlib.Core.Logic.{_↔_}
+use mathlib.Core.List.{List, [], _∷_, _++_, List·Memᴰ}
+use lib.ListN.{length, replicate}
+use Rattle.wire.specs.Bytes.{leOf}
+use Rattle.records.specs.declared.Kind.{Kind}
+use Rattle.records.specs.declared.Kind.the-variants.{Dvc}
+use Rattle.division.specs.Division.{Division}
+use Rattle.division.specs.Written.{Written, dvc, det, dpd, dpt, dvp}
+use Rattle.text.specs.Examined.{Sound}
+use Rattle.device.specs.Queries.{acceptance, textNumber, textOf, labelsNumber, structureLabel, localizationLabel, extendedLabel, extendedCount}
+
+-- the two bytes of a record's ID
+abbrev pub idIn : {k : Kind} {r : List ℕ} → Written k r → List ℕ
+idIn (dvc id designator version name serial structure localization extended a b c d e f g h) = id
+idIn (det id type designator number parent count list a b c d e f g) = id
+idIn (dpd id ddi properties triggers designator presentation a b c d e f) = id
+idIn (dpt id ddi value designator presentation a b c d e) = id
+idIn (dvp id offset scale decimals unit a b c d e) = id
+
+-- the text that a query gives of a record: its designator, and of a value presentation the unit text
+abbrev pub textIn : {k : Kind} {r : List ℕ} → Written k r → List ℕ
+textIn (dvc id designator version name serial structure localization extended a b c d e f g h) = designator
+textIn (det id type designator number parent count list a b c d e f g) = designator
+textIn (dpd id ddi properties triggers designator presentation a b c d e f) = designator
+textIn (dpt id ddi value designator presentation a b c d e) = designator
+textIn (dvp id offset scale decimals unit a b c d e) = unit
+
+-- all its texts
+abbrev pub textsIn : {k : Kind} {r : List ℕ} → Written k r → List (List ℕ)
+textsIn (dvc id designator version name serial structure localization extended a b c d e f g h) = designator ∷ version ∷ serial ∷ []
+textsIn (det id type designator number parent count list a b c d e f g) = designator ∷ []
+textsIn (dpd id ddi properties triggers designator presentation a b c d e f) = designator ∷ []
+textsIn (dpt id ddi value designator presentation a b c d e) = designator ∷ []
+textsIn (dvp id offset scale decimals unit a b c d e) = unit ∷ []
+
+-- the labels of a device; other records have none
+pub record Labels : Type 0 where
+  pub structure : List ℕ
+  pub localization : List ℕ
+  pub extended : List ℕ
+
+abbrev pub labelsIn : {k : Kind} {r : List ℕ} → Written k r → Labels
+labelsIn (dvc id designator version name serial structure localization extended a b c d e f g h) = record { structure = structure; localization = localization; extended = extended }
+labelsIn (det id type designator number parent count list a b c d e f g) = record { structure = []; localization = []; extended = [] }
+labelsIn (dpd id ddi properties triggers designator presentation a b c d e f) = record { structure = []; localization = []; extended = [] }
+labelsIn (dpt id ddi value designator presentation a b c d e) = record { structure = []; localization = []; extended = [] }
+labelsIn (dvp id offset scale decimals unit a b c d e) = record { structure = []; localization = []; extended = [] }
+
+-- a record has this ID
+abbrev pub Has : ℕ → List ℕ → Type 0
+Has id r = (k : Kind) × (w : Written k r) × (leOf (idIn w) ≡ id)
+
+-- no record of a list is so
+abbrev pub None : (List ℕ → Type 0) → List (List ℕ) → Type 0
+None P rs = (r : List ℕ) → List·Memᴰ r rs → P r → ⊥
+
+-- texts and labels asked of an accepted pool
+pub record QueriesAreParts (p : List ℕ) (room : ℕ) : Type 0 where
+  -- an ID stands for the first record that has it, and what is given are the bytes of that record's text
+  pub text : (front : List (List ℕ)) (r : List ℕ) (back : List (List ℕ)) → Division p (front ++ (r ∷ back)) → (k : Kind) (w : Written k r) → None (Has (leOf (idIn w))) front
+      → (textNumber p room (leOf (idIn w)) ≡ 0) × (textOf p room (leOf (idIn w)) ≡ textIn w)
+  -- 28 exactly if no record has the ID
+  pub missing : (rs : List (List ℕ)) → Division p rs → (id : ℕ) → (textNumber p room id ≡ 28) ↔ None (Has id) rs
+  -- every text is sound
+  pub sound : (front : List (List ℕ)) (r : List ℕ) (back : List (List ℕ)) → Division p (front ++ (r ∷ back)) → (k : Kind) (w : Written k r) (t : List ℕ) → List·Memᴰ t (textsIn w) → Sound t
+  -- the labels are those of the first device; the bytes of the extended one that are not used are 0
+  pub labels : (front : List (List ℕ)) (r : List ℕ) (back : List (List ℕ)) → Division p (front ++ (r ∷ back)) → (w : Written Dvc r) → None (Written Dvc) front
+      → (labelsNumber p room ≡ 0) × (structureLabel p room ≡ labelsIn w .structure) × (localizationLabel p room ≡ labelsIn w .localization)
+      × (extendedLabel p room ≡ labelsIn w .extended ++ replicate (32 - length (labelsIn w .extended)) 0) × (extendedCount p room ≡ length (labelsIn w .extended))
+
+abbrev pub AcceptedQueries : Type 0
+AcceptedQueries = (p : List ℕ) (room : ℕ) → acceptance p room ≡ 0 → QueriesAreParts p room
