@@ -11,7 +11,7 @@ import sys
 DOCS = Path(__file__).resolve().parent
 
 # Centres of the columns and of the rows. The interface has columns of its own: all of it stands right under `terminal`.
-COLUMN = {"log": 185, "exchange": 325, "beside": 460, "spine": 605, "table": 750, "session": 905, "claim": 1070}
+COLUMN = {"log": 185, "exchange": 325, "beside": 460, "spine": 605, "table": 750, "session": 925, "claim": 1070}
 COLUMN |= {"device": 398, "command": 535, "answer": 675}
 TOP, PITCH = 100, 64
 WIDTH, HEIGHT = 124, 42
@@ -42,6 +42,7 @@ BOXES = {
     "presentation": ("exchange", 3, "displayed values"),
     "judging": ("spine", 3, "commands judged"),
     "cases": ("claim", 3, "worked cases"),
+    "query_claims": ("table", 3, "texts and labels"),
     "log_reading": ("log", 4, "log records, logs"),
     "messages": ("exchange", 4, "process data"),
     "device": ("spine", 4, "texts and labels"),
@@ -70,24 +71,27 @@ BOXES = {
     "wire": ("spine", 15, "numbers in bytes"),
 }
 PROGRAMS = {"terminal", "lister"}
-CLAIMS = {"c_functions", "c_sessions", "cases", "book", "claims", "division"}
+CLAIMS = {"c_functions", "c_sessions", "query_claims", "cases", "book", "claims", "division"}
 
 # Arrows that do not go straight: from which side and how far from its middle, the turns in between (x or y in turn), to
 # which side and how far from its middle.
 BENDS = {
-    ("c_functions", "terminal"): ("bottom", 0, [], "top", -220),
-    ("c_functions", "book"): ("right", -9, [987], "left", -9),
+    ("c_functions", "terminal"): ("bottom", 0, [], "top", -230),
+    ("c_functions", "book"): ("right", -9, [997], "left", -9),
     ("c_sessions", "terminal"): ("left", 9, [], "top", 330),
     ("c_sessions", "book"): ("right", 0, [1143], "right", 0),
-    ("answers", "session"): ("right", 0, [790], "left", 0),
-    ("lister", "checker"): ("bottom", -40, [1.5, 819], "right", -15),
+    ("answers", "session"): ("right", 0, [838], "left", 0),
+    ("cases", "judging"): ("left", -9, [1000, 2.5], "top", 50),
+    ("query_claims", "device"): ("bottom", 0, [], "right", 0),
+    ("query_claims", "claims"): ("bottom", 40, [5.5], "top", -30),
+    ("lister", "checker"): ("bottom", -40, [1.5, 826], "right", -15),
     ("checker", "working_table"): ("right", 16, [], "top", 0),
     ("commands", "judging"): ("bottom", 35, [], "top", -35),
     ("answers", "judging"): ("bottom", -35, [], "top", 35),
     ("device_pool", "device"): ("bottom", 30, [3.5], "top", -30),
     ("judging", "messages"): ("left", 9, [532], "right", 0),
-    ("activation", "checker"): ("left", 9, [829], "right", -5),
-    ("session", "wire"): ("right", 0, [987], "right", 0),
+    ("activation", "checker"): ("left", 9, [850], "right", -5),
+    ("session", "wire"): ("right", 0, [997], "right", 0),
     ("claims", "checker"): ("left", 6, [], "right", 6),
     ("counting", "chains"): ("left", 0, [], "top", 0),
     ("chains", "rules"): ("bottom", 30, [10.5], "top", -30),
