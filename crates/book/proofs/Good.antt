@@ -27,10 +27,6 @@ pub record Good (ls lk : ℕ) (b : Book) (st k : List ℕ) : Type 0 where
   pub staged : Starts st (b .arrived)
   pub stored : Starts k (b .kept)
 
--- no test of a value that can't arise holds
-all-false : (a b c d f g : Bool) → a ≡ false → b ≡ false → c ≡ false → d ≡ false → f ≡ false → g ≡ false → (((((a || b) || c) || d) || f) || g) ≡ false
-all-false a b c d f g ea eb ec ed ef eg = rw (ea, eb, ec, ed, ef, eg)
-
 -- stage and active are 0 or 1, and say what the book says
 pub is-one : (o : Bool) → eqb (cond o 1 0) 1 ≡ o
 is-one true = refl
@@ -40,37 +36,35 @@ pub is-zero : (o : Bool) → eqb (cond o 1 0) 0 ≡ not o
 is-zero true = refl
 is-zero false = refl
 
-known : (o a : Bool) → (ltb 1 (cond o 1 0) || ltb 1 (cond a 1 0)) ≡ false
-known true true = refl
-known true false = refl
-known false true = refl
-known false false = refl
+at-most-one : (o : Bool) → ltb 1 (cond o 1 0) ≡ false
+at-most-one true = refl
+at-most-one false = refl
 
 not-zero : (a : Bool) (n : ℕ) → (a ≡ true → 0 < n) → (a && eqb n 0) ≡ false
 not-zero true n h = ne-eqb n 0 (λ (z : n ≡ 0). let k = h refl in omega arith)
 not-zero false n h = refl
 
-no-traces : (o : Bool) (n r : ℕ) → (o ≡ false → n ≡ 0) → r ≤ n → (not (eqb (cond o 1 0) 1) && (not (eqb n 0) || not (eqb r 0))) ≡ false
-no-traces true n r h l = refl
-no-traces false n r h l =
-    let z : n ≡ 0 = h refl in
-    let y : r ≡ 0 = omega arith in
-    rw (eq-eqb n 0 z, eq-eqb r 0 y)
+no-trace : (o : Bool) (n : ℕ) → (o ≡ false → n ≡ 0) → (not o && not (eqb n 0)) ≡ false
+no-trace true n h = refl
+no-trace false n h = rw (eq-eqb n 0 (h refl))
 
 pub possible : (ls lk : ℕ) (b : Book) (st k : List ℕ) → Good ls lk b st k → impossible (sessionOf b) ≡ false
 unfolding impossible
 possible ls lk b st k g =
-    all-false (ltb 1 (cond (b .offered) 1 0) || ltb 1 (cond (b .active) 1 0)) (ltb 65535 (b .announced) || ltb 65535 (length (b .kept)))
-    (eqb (cond (b .offered) 1 0) 1 && eqb (b .announced) 0)
-    (ltb (b .announced) (length (b .arrived)))
-    (eqb (cond (b .active) 1 0) 1 && eqb (length (b .kept)) 0)
-    (not (eqb (cond (b .offered) 1 0) 1) && (not (eqb (b .announced) 0) || not (eqb (length (b .arrived)) 0)))
-    (known (b .offered) (b .active))
-    (rw (le-ltb 65535 (b .announced) (g .size), le-ltb 65535 (length (b .kept)) (g .kept-size)))
-    (rw (is-one (b .offered)) (not-zero (b .offered) (b .announced) (g .some)))
-    (le-ltb (b .announced) (length (b .arrived)) (g .part))
-    (rw (is-one (b .active)) (not-zero (b .active) (length (b .kept)) (g .live)))
-    (no-traces (b .offered) (b .announced) (length (b .arrived)) (g .none) (g .part))
+    let received : b .offered ≡ false → length (b .arrived) ≡ 0 = λ (o : b .offered ≡ false). omega (arith, g .none o, g .part) in
+    rw (
+      at-most-one (b .offered),
+      at-most-one (b .active),
+      le-ltb 65535 (b .announced) (g .size),
+      le-ltb 65535 (length (b .kept)) (g .kept-size),
+      is-one (b .offered),
+      is-one (b .active),
+      not-zero (b .offered) (b .announced) (g .some),
+      le-ltb (b .announced) (length (b .arrived)) (g .part),
+      not-zero (b .active) (length (b .kept)) (g .live),
+      no-trace (b .offered) (b .announced) (g .none),
+      no-trace (b .offered) (length (b .arrived)) received,
+    )
 
 -- the book of a new session, and a stage's end
 pub blank-good : (st k : List ℕ) → Good (length st) (length k) blank st k

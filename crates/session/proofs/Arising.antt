@@ -1,52 +1,43 @@
 -- What holds of a value that can arise. Assumes nothing.
-use mathlib.Core.List.{List}
-use mathlib.Core.Path.{_≡_, sym}
+use mathlib.Core.List.{List, [], _∷_}
+use mathlib.Core.Path.{_≡_, refl, sym}
 use mathlib.Core.Bool.{Bool, true, false, not, _&&_, _||_, true≢false}
-use Prim.Native.Nat.{ℕ, _≤_}
+use Prim.Native.Nat.{ℕ, zero, suc, _≤_}
 use native.Mathlib.Omega.{arith}
 use borrow.Author.Tests.{ltb-false, eqb-false}
 use lib.Dec.{eqb, ltb}
-use lib.ListN.{length, take}
+use lib.ListN.{length, getD, take}
 use lib.Seq.{length-take-le}
 use Rattle.wire.proofs.Either.{neither}
-use Rattle.session.specs.Calls.{isOffered, isActive, impossible}
+use Rattle.session.specs.Calls.{isOffered, anyOf, causes, impossible}
 use Rattle.session.specs.declared.Session.{Session}
 
 not-both : (a b : Bool) → (a && b) ≡ false → a ≡ true → b ≡ false
 not-both true b e q = e
 not-both false b e q = absurd (true≢false (sym q))
 
-none : (a b c d f g : Bool) → (((((a || b) || c) || d) || f) || g) ≡ false → (a ≡ false) × (b ≡ false) × (c ≡ false) × (d ≡ false) × (f ≡ false) × (g ≡ false)
-none a b c d f g e =
-    let m = neither ((((a || b) || c) || d) || f) g e in
-    let n = neither (((a || b) || c) || d) f (m .0) in
-    let o = neither ((a || b) || c) d (n .0) in
-    let p = neither (a || b) c (o .0) in
-    let q = neither a b (p .0) in
-    (q .0, q .1, p .1, o .1, n .1, m .1)
+-- where none of some tests holds, test i does not
+none-of : (ts : List Bool) → anyOf ts ≡ false → (i : ℕ) → getD ts i false ≡ false
+none-of [] e i = refl
+none-of (t ∷ ts) e zero = neither t (anyOf ts) e .0
+none-of (t ∷ ts) e (suc i) = none-of ts (neither t (anyOf ts) e .1) i
 
 module _ (s : Session) (e : impossible s ≡ false) where
   tests :
-      ((ltb 1 (s .stage) || ltb 1 (s .active)) ≡ false) × ((ltb 65535 (s .announced) || ltb 65535 (s .kept)) ≡ false)
-      × ((isOffered s && eqb (s .announced) 0) ≡ false) × (ltb (s .announced) (s .received) ≡ false) × ((isActive s && eqb (s .kept) 0) ≡ false)
-      × ((not (isOffered s) && (not (eqb (s .announced) 0) || not (eqb (s .received) 0))) ≡ false)
+      (ltb 65535 (s .announced) ≡ false) × ((isOffered s && eqb (s .announced) 0) ≡ false) × (ltb (s .announced) (s .received) ≡ false)
   unfolding impossible
-  tests =
-      none (ltb 1 (s .stage) || ltb 1 (s .active)) (ltb 65535 (s .announced) || ltb 65535 (s .kept)) (isOffered s && eqb (s .announced) 0)
-      (ltb (s .announced) (s .received)) (isActive s && eqb (s .kept) 0)
-      (not (isOffered s) && (not (eqb (s .announced) 0) || not (eqb (s .received) 0)))
-      e
+  tests = (none-of (causes s) e 2, none-of (causes s) e 4, none-of (causes s) e 5)
 
   -- no more is received than was announced, which is no more than a pool may have
   pub within : s .received ≤ s .announced
-  within = ltb-false (s .announced) (s .received) (tests .3)
+  within = ltb-false (s .announced) (s .received) (tests .2)
 
   pub small : s .announced ≤ 65535
-  small = ltb-false 65535 (s .announced) (neither (ltb 65535 (s .announced)) (ltb 65535 (s .kept)) (tests .1) .0)
+  small = ltb-false 65535 (s .announced) (tests .0)
 
   -- an offer announces something
   pub some : isOffered s ≡ true → 1 ≤ s .announced
-  some o = positive (s .announced) (eqb-false (s .announced) 0 (not-both (isOffered s) (eqb (s .announced) 0) (tests .2) o))
+  some o = positive (s .announced) (eqb-false (s .announced) 0 (not-both (isOffered s) (eqb (s .announced) 0) (tests .1) o))
     where
       positive : (n : ℕ) → (n ≡ 0 → ⊥) → 1 ≤ n
       positive n h = omega arith

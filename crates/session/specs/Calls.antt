@@ -2,7 +2,7 @@
 -- what it leaves in the memory it was lent. Definitions only.
 use Prim.Native.Nat.{ℕ, _+_, _-_}
 use mathlib.Core.Bool.{Bool, true, false, not, _&&_, _||_}
-use mathlib.Core.List.{List}
+use mathlib.Core.List.{List, [], _∷_}
 use lib.Dec.{eqb, ltb}
 use lib.ListN.{length}
 use lib.Seq.{sets}
@@ -25,16 +25,28 @@ isActive s = eqb (s .active) 1
 abbrev pub ended : Session → Session
 ended s = record { announced = 0; received = 0; kept = s .kept; stage = 0; active = s .active }
 
--- the values that can't arise: a number that is no stage or says neither active nor not, a size over 65,535, an offer of nothing,
--- more received than announced, a pool active that is not kept, or traces of an offer at stage none
+-- whether one of some tests holds
+abbrev pub anyOf : List Bool → Bool
+anyOf [] = false
+anyOf (t ∷ ts) = t || anyOf ts
+
+-- why a value can't arise: a number that is no stage, or says neither active nor not; a size over 65,535; an offer of nothing; more
+-- received than announced; a pool active that is not kept; something announced or received at stage none
+abbrev pub causes : Session → List Bool
+causes s =
+    ltb 1 (s .stage)
+    ∷ ltb 1 (s .active)
+    ∷ ltb 65535 (s .announced)
+    ∷ ltb 65535 (s .kept)
+    ∷ (isOffered s && eqb (s .announced) 0)
+    ∷ ltb (s .announced) (s .received)
+    ∷ (isActive s && eqb (s .kept) 0)
+    ∷ (not (isOffered s) && not (eqb (s .announced) 0))
+    ∷ (not (isOffered s) && not (eqb (s .received) 0))
+    ∷ []
+
 unfoldable pub impossible : Session → Bool
-impossible s =
-    (((((ltb 1 (s .stage) || ltb 1 (s .active))
-    || (ltb 65535 (s .announced) || ltb 65535 (s .kept)))
-    || (isOffered s && eqb (s .announced) 0))
-    || ltb (s .announced) (s .received))
-    || (isActive s && eqb (s .kept) 0))
-    || (not (isOffered s) && (not (eqb (s .announced) 0) || not (eqb (s .received) 0)))
+impossible s = anyOf (causes s)
 
 -- the value that a call returns, and its reply
 pub record Told : Type 0 where

@@ -69,8 +69,9 @@ pub fn is_impossible(s: Session) -> bool
     let empty_offer = offered & (s.announced == 0);
     let too_much = s.announced < s.received;
     let nothing_active = (s.active == 1) & (s.kept == 0);
-    let unoffered = !offered & ((s.announced != 0) | (s.received != 0));
-    unknown | too_large | empty_offer | too_much | nothing_active | unoffered
+    let announced = !offered & (s.announced != 0);
+    let received = !offered & (s.received != 0);
+    unknown | too_large | empty_offer | too_much | nothing_active | announced | received
 }
 
 pub fn refuse(s: Session, answer: Answer) -> Step
