@@ -50,12 +50,12 @@ found s e =
     plain n rest x = true≢false (sym (ap marked x) ∙ n)
 
     go : marked s ≡ false → (c : Counted) → charactersIn 0 s ≡ c → few c ≡ true → Sound s
-    go n (Characters k) x f = record { length = k; text = sound s k x; few = leb-true k 32 f; plain = plain n }
+    go n (Characters k) x f = record { characters = k; text = sound s k x; few = leb-true k 32 f; plain = plain n }
     go n Malformed x f = absurd (true≢false (sym f))
 
 kept : (s : List ℕ) → Sound s → soundText s ≡ true
 unfolding soundText
-kept s t = rw (unmarked s (t .plain), complete (t .text)) (le-leb (t .length) 32 (t .few))
+kept s t = rw (unmarked s (t .plain), complete (t .text)) (le-leb (t .characters) 32 (t .few))
 
 pub examined : (s : List ℕ) → Examined s
 examined s = (found s, kept s)

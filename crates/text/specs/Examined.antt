@@ -23,9 +23,9 @@ soundText s = cond (marked s) false (few (charactersIn 0 s))
 
 -- a sound text without a count of ours: characters of the grammar, at most 32, and not the mark in front
 pub record Sound (s : List ℕ) : Type 0 where
-  pub length : ℕ
-  pub text : Text s length
-  pub few : length ≤ 32
+  pub characters : ℕ
+  pub text : Text s characters
+  pub few : characters ≤ 32
   pub plain : (rest : List ℕ) → s ≡ 0xEF ∷ 0xBB ∷ 0xBF ∷ rest → ⊥
 
 abbrev pub Examined : List ℕ → Type 0
