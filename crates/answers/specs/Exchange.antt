@@ -2,6 +2,7 @@
 use Rattle.messages.specs.Reading.{Fields}
 use Rattle.answers.specs.declared.MessageFields.{MessageFields}
 
+-- the numbers of a message by their names
 abbrev pub fieldsIn : MessageFields → Fields
 fieldsIn m =
     record {

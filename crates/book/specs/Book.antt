@@ -28,6 +28,7 @@ pub record Said : Type 0 where
   pub place : ℕ
   pub first : Fault
 
+-- a number with its place, and no fault
 abbrev pub said : ℕ → ℕ → Said
 said n place = record { number = n; place = place; first = fault 0 0 0 }
 
@@ -52,14 +53,17 @@ pub record Noted : Type 0 where
   pub book : Book
   pub told : Said
 
+-- a call that leaves this book and tells a number without a place
 abbrev pub note : Book → ℕ → Noted
 note b n = record { book = b; told = said n 0 }
 
+-- one of two, by a test
 infixr 10 if_then_else_
 abbrev pub if_then_else_ {ℓ} : {A : Type ℓ} → Bool → A → A → A
 if true then a else b = a
 if false then a else b = b
 
+-- the first fault of a list, zeros where there is none
 abbrev pub firstIn : List Fault → Fault
 firstIn [] = fault 0 0 0
 firstIn (f ∷ fs) = f
@@ -107,6 +111,7 @@ unfoldable pub bookOf : ℕ → ℕ → Book → List Call → Book
 bookOf ls lk b [] = b
 bookOf ls lk b (c ∷ cs) = bookOf ls lk (noted ls lk b c .book) cs
 
+-- what a client is told, call by call
 unfoldable pub saidOf : ℕ → ℕ → Book → List Call → List Said
 saidOf ls lk b [] = []
 saidOf ls lk b (c ∷ cs) = noted ls lk b c .told ∷ saidOf ls lk (noted ls lk b c .book) cs

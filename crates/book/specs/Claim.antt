@@ -55,6 +55,7 @@ pub record Outcome (F : Functions) (s : Session) (staging kept : List ℕ) (cs :
   pub kept-left : List ℕ
   pub run : Runs F s staging kept cs steps session staging-left kept-left
 
+-- the claim, of one list of calls over two areas
 pub record Booked (F : Functions) (staging kept : List ℕ) (cs : List Call) : Type 0 where
   -- no call asks anything of its caller, there is a new session, and so every list of calls has a run
   pub free : F .Free

@@ -62,5 +62,6 @@ pub record Free : Type 0 where
 abbrev pub told : Answer → Said
 told a = record { number = replyOf a .number; place = replyOf a .place; first = replyOf a .first }
 
+-- the functions of Rattle, as the claim takes them
 abbrev pub inRattle : Functions
 inRattle = record { Step = Step; session = λ r. r .session; told = λ r. told (r .answer); New = New; Does = Does; Free = Free }

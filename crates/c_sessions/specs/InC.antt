@@ -60,5 +60,6 @@ pub record Free : Type 0 where
 abbrev pub told : StepFields → Said
 told r = record { number = r .number; place = r .place; first = fault (r .«record») (r .rule) (r .item) }
 
+-- the functions of C, as the claim takes them
 abbrev pub inC : Functions
 inC = record { Step = StepFields; session = λ r. r .session; told = told; New = New; Does = Does; Free = Free }

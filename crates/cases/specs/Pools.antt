@@ -14,9 +14,11 @@ device =
 abbrev pub poolWith : ℕ → List ℕ
 poolWith parent = device ++ 0x44 ∷ 0x45 ∷ 0x54 ∷ 1 ∷ 0 ∷ 1 ∷ 0 ∷ 0 ∷ 0 ∷ parent ∷ 0 ∷ 0 ∷ 0 ∷ []
 
+-- P of document 01: a device and a device element
 abbrev pub poolP : List ℕ
 poolP = poolWith 0
 
+-- Q of document 01: P, a device element with one entry, and the process data that it names
 abbrev pub poolQ : List ℕ
 poolQ =
     poolP

@@ -24,6 +24,7 @@ pub record Case : Type 1 where
   pub is : of
   pub due : of
 
+-- a pool is read so, with a table of 2,048 entries
 abbrev pub reads : List ℕ → Answer → Case
 reads p a = record { of = Answer; is = readOf p 2048; due = a }
 
@@ -41,6 +42,7 @@ lastOf [] = said 0 0
 lastOf (q ∷ []) = q
 lastOf (q ∷ (r ∷ qs)) = lastOf (r ∷ qs)
 
+-- the last call of a list is answered so, over areas of 100 bytes
 abbrev pub tells : List Call → Said → Case
 tells cs q = record { of = Said; is = lastOf (saidOf 100 100 Book.blank cs); due = q }
 
@@ -53,6 +55,7 @@ abbrev pub judges : ℕ → ℕ → Case
 judges command error =
     record { of = Answer; is = answer (judgeNumber poolQ 2048 1) (judgeError poolQ 2048 command 1 141 (pos 1000)); due = answer 0 error }
 
+-- the starred lines, in their order
 abbrev pub cases : List Case
 cases =
     -- the empty pool is refused with 1

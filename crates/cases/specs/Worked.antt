@@ -23,6 +23,7 @@ gets c q = record { call = c; told = q }
 abbrev table : List Record
 table = replicate 10 blank
 
+-- a pool is offered, sent and activated, with wrong calls in between
 abbrev pub opening : List Line
 opening =
     -- nothing is kept or offered yet
@@ -45,6 +46,7 @@ opening =
     ∷ gets (activate table) (said 0 0)
     ∷ []
 
+-- it is deactivated and activated again; a pool with a fault is refused; the connection is lost, and the pool deleted
 abbrev pub rest : List Line
 rest =
     gets deactivate (said 0 0)
@@ -63,14 +65,17 @@ rest =
     ∷ gets (activate table) (said 21 0)
     ∷ []
 
+-- the calls of some lines
 abbrev pub callsIn : List Line → List Call
 callsIn [] = []
 callsIn (l ∷ ls) = l .call ∷ callsIn ls
 
+-- what is told in them
 abbrev pub toldIn : List Line → List Said
 toldIn [] = []
 toldIn (l ∷ ls) = l .told ∷ toldIn ls
 
+-- the session, line by line, and the pool that is kept in the course of it
 pub record Worked : Type 0 where
   pub told : saidOf 80 80 Book.blank (callsIn (opening ++ rest)) ≡ toldIn (opening ++ rest)
   -- Q is kept once it has been activated, and stays until it is deleted

@@ -41,6 +41,7 @@ checkOf p room = pick (eqb (readOf p room .number) 0) (answer 0 (length (breache
 unfoldable pub countOf : List ℕ → ℕ → ℕ
 countOf p room = cond (eqb (readOf p room .number) 0) (readOf p room .value) 0
 
+-- one of two lists, by a test
 abbrev pub pickList : Bool → List ℕ → List ℕ → List ℕ
 pickList true a b = a
 pickList false a b = b

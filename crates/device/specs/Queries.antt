@@ -21,15 +21,18 @@ use Rattle.device.specs.declared.DeviceLabels.{DeviceLabels}
 abbrev pub refusalIn : Answer → ℕ
 refusalIn a = cond (eqb (a .number) 0) (cond (eqb (a .value) 0) 0 24) (a .number)
 
+-- the same of a pool, with a table of so many entries
 unfoldable pub acceptance : List ℕ → ℕ → ℕ
 acceptance p room = refusalIn (checkOf p room)
 
 -- ---- texts
 
+-- one of two places, by a test
 abbrev pub pickSpan : Bool → Span → Span → Span
 pickSpan true a b = a
 pickSpan false a b = b
 
+-- no bytes, at place 0
 abbrev pub nowhere : Span
 nowhere = record { from = 0; to = 0 }
 
@@ -61,6 +64,7 @@ unfoldable pub textSpan : List ℕ → ℕ → ℕ → Span
 textSpan p room id =
     pickSpan (eqb (acceptance p room) 0) (textOfRecord p (entriesIn (scanOf p)) (carrier (entriesIn (scanOf p)) id)) nowhere
 
+-- the bytes of the text
 unfoldable pub textOf : List ℕ → ℕ → ℕ → List ℕ
 textOf p room id = partOf p (textSpan p room id)
 
@@ -79,6 +83,7 @@ abbrev pub startOf : List Entry → ℕ → ℕ
 startOf es zero = 0
 startOf es (suc i) = startAt es i
 
+-- the fields of the first device
 unfoldable pub deviceIn : List ℕ → List Entry → Device
 deviceIn p es = deviceOf p (startOf es (firstOf (kindAt es) 1 (length es)))
 
@@ -91,12 +96,15 @@ abbrev pub ifAccepted : ℕ → List ℕ → List ℕ
 ifAccepted zero t = t
 ifAccepted (suc number) t = []
 
+-- labels are refused as a pool is not accepted
 abbrev pub labelsNumber : List ℕ → ℕ → ℕ
 labelsNumber p room = acceptance p room
 
+-- seven bytes, zeros where the call is refused
 unfoldable pub structureLabel : List ℕ → ℕ → List ℕ
 structureLabel p room = padded 7 (ifAccepted (labelsNumber p room) (partOf p (deviceIn p (entriesIn (scanOf p)) .structure)))
 
+-- the same of the localization label
 unfoldable pub localizationLabel : List ℕ → ℕ → List ℕ
 localizationLabel p room = padded 7 (ifAccepted (labelsNumber p room) (partOf p (deviceIn p (entriesIn (scanOf p)) .localization)))
 
@@ -104,9 +112,11 @@ localizationLabel p room = padded 7 (ifAccepted (labelsNumber p room) (partOf p 
 unfoldable pub extendedText : List ℕ → ℕ → List ℕ
 extendedText p room = ifAccepted (labelsNumber p room) (partOf p (deviceIn p (entriesIn (scanOf p)) .extended))
 
+-- the extended label in 32 bytes
 unfoldable pub extendedLabel : List ℕ → ℕ → List ℕ
 extendedLabel p room = padded 32 (extendedText p room)
 
+-- how many of them are used
 unfoldable pub extendedCount : List ℕ → ℕ → ℕ
 extendedCount p room = length (extendedText p room)
 

@@ -10,6 +10,7 @@ abbrev pub AllWhole : List (List ℕ) → Type 0
 AllWhole [] = Unit {0}
 AllWhole (r ∷ rs) = Whole r × AllWhole rs
 
+-- records one after the other, as bytes
 abbrev pub joined : List (List ℕ) → List ℕ
 joined [] = []
 joined (r ∷ rs) = r ++ joined rs
@@ -20,6 +21,7 @@ pub record Division (p : List ℕ) (rs : List (List ℕ)) : Type 0 where
   pub whole : AllWhole rs
   pub same : p ≡ joined rs
 
+-- a pool that has a division
 pub record Divides (p : List ℕ) : Type 0 where
   pub parts : List (List ℕ)
   pub division : Division p parts

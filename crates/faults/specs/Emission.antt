@@ -13,6 +13,7 @@ use Rattle.faults.specs.Rows.{Row, inRows}
 unfoldable pub putAt : List ℕ → ℕ → Fault → List ℕ
 putAt b k f = cond (leb (k * width + width) (length b)) (sets b (k * width) (numbers f)) b
 
+-- faults put one after the other
 unfoldable pub puts : List ℕ → ℕ → List Fault → List ℕ
 puts b k [] = b
 puts b k (f ∷ fs) = puts (putAt b k f) (k + 1) fs

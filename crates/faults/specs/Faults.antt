@@ -12,6 +12,7 @@ pub record Fault : Type 0 where
   pub rule : ℕ
   pub item : ℕ
 
+-- a fault by its three numbers
 abbrev pub fault : ℕ → ℕ → ℕ → Fault
 fault n u k = record { number = n; rule = u; item = k }
 
@@ -19,9 +20,11 @@ fault n u k = record { number = n; rule = u; item = k }
 abbrev pub width : ℕ
 width = 3
 
+-- a fault as numbers, in this order
 abbrev pub numbers : Fault → List ℕ
 numbers f = f .number ∷ f .rule ∷ f .item ∷ []
 
+-- faults as numbers, one after the other
 abbrev pub flat : List Fault → List ℕ
 flat [] = []
 flat (f ∷ fs) = numbers f ++ flat fs

@@ -13,12 +13,15 @@ pub record Row : Type 0 where
   pub size : ℕ
   pub breach : ℕ → Bool
 
+-- a row of a rule with so many items from one on, and a test for each
 abbrev pub many : ℕ → ℕ → ℕ → (ℕ → Bool) → Row
 many u k n t = record { rule = u; first = k; size = n; breach = t }
 
+-- a row with a single item
 abbrev pub one : ℕ → ℕ → Bool → Row
 one u k b = many u k 1 (λ m. b)
 
+-- a fault, if its test holds
 abbrev pub ifSo : Bool → Fault → List Fault
 ifSo true f = f ∷ []
 ifSo false f = []
@@ -43,6 +46,7 @@ inRecords rows (suc n) = inRecords rows n ++ inRows n (rows n)
 abbrev pub precedes : Row → Row → Bool
 precedes w v = ltb (w .rule) (v .rule) || (eqb (w .rule) (v .rule) && leb (w .first + w .size) (v .first))
 
+-- a row stands before all of some others
 abbrev pub precedesAll : Row → List Row → Bool
 precedesAll w [] = true
 precedesAll w (v ∷ vs) = precedes w v && precedesAll w vs
@@ -59,6 +63,7 @@ pub record Alike (w v : Row) : Type 0 where
   pub size : w .size ≡ v .size
   pub breach : (m : ℕ) → m < w .size → w .breach m ≡ v .breach m
 
+-- two tables that say the same, row by row
 abbrev pub AllAlike : List Row → List Row → Type 0
 AllAlike [] [] = Unit {0}
 AllAlike [] (v ∷ vs) = ⊥
@@ -69,6 +74,7 @@ AllAlike (w ∷ ws) (v ∷ vs) = Alike w v × AllAlike ws vs
 abbrev pub Clear : Row → Type 0
 Clear w = (m : ℕ) → m < w .size → w .breach m ≡ false
 
+-- a table of which no test holds
 abbrev pub AllClear : List Row → Type 0
 AllClear [] = Unit {0}
 AllClear (w ∷ ws) = Clear w × AllClear ws

@@ -15,6 +15,7 @@ use Rattle.messages.specs.Writing.{valueRefusal, valueAfter, acknowledge
 abbrev pub Octets : List ℕ → Type 0
 Octets s = (i : ℕ) → getD s i 0 < 256
 
+-- both ways: written and read, read and written
 pub record ReadsBack : Type 0 where
   -- every message that is written, into eight bytes or more
   pub value : (to : List ℕ) (command element ddi : ℕ) (v : ℤ) → valueRefusal command element (length to) ≡ 0 → ddi < 65536 → mag v < 2 ^ 31

@@ -10,6 +10,7 @@ use Rattle.wire.specs.Bytes.{bytesOf, bitsOf}
 abbrev pub carriesValue : ℕ → Bool
 carriesValue c = (leb 2 c && leb c 8) || eqb c 10
 
+-- the command of an acknowledge, D
 abbrev pub acknowledge : ℕ
 acknowledge = 13
 

@@ -20,22 +20,27 @@ pub record Fields : Type 0 where
   pub errors : ℕ
   pub answered : ℕ
 
+-- a value message
 abbrev pub valued : ℕ → ℕ → ℕ → ℤ → Fields
 valued command element ddi value = record { number = 0; command = command; element = element; ddi = ddi; value = value; errors = 0; answered = 0 }
 
+-- an acknowledge
 abbrev pub acknowledged : ℕ → ℕ → ℕ → ℕ → Fields
 acknowledged element ddi errors answered =
     record { number = 0; command = acknowledge; element = element; ddi = ddi; value = pos 0; errors = errors; answered = answered }
 
+-- a refusal, with zeros
 abbrev pub refused : ℕ → Fields
 refused n = record { number = n; command = 0; element = 0; ddi = 0; value = pos 0; errors = 0; answered = 0 }
 
+-- the number and the fields that each answer stands for
 abbrev pub fieldsOf : Message → Fields
 fieldsOf (Value command element ddi value) = valued command element ddi value
 fieldsOf (Acknowledge element ddi errors answered) = acknowledged element ddi errors answered
 fieldsOf NotEight = refused 30
 fieldsOf NoCommand = refused 31
 
+-- one of two, by a test
 abbrev pub choose {ℓ} : {A : Type ℓ} → Bool → A → A → A
 choose true a b = a
 choose false a b = b
@@ -44,9 +49,11 @@ choose false a b = b
 abbrev pub commandIn : List ℕ → ℕ
 commandIn s = getD s 0 0 % 16
 
+-- the element number: four bits of the first byte, and the second byte above them
 abbrev pub elementIn : List ℕ → ℕ
 elementIn s = getD s 0 0 / 16 + 16 * getD s 1 0
 
+-- 30 for other than eight bytes; a value message; an acknowledge; 31 for any other command
 unfoldable pub readOf : List ℕ → Fields
 readOf s =
     choose (not (eqb (length s) 8)) (refused 30)

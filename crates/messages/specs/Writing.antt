@@ -11,6 +11,7 @@ use Rattle.messages.specs.Reading.{choose}
 use Rattle.messages.specs.declared.Written.{Written}
 use Rattle.messages.specs.declared.Written.the-variants.{Done, NoCommand, TooLarge, NoRoom}
 
+-- the number that each answer stands for, 0 where the message is written
 abbrev pub numberOf : Written → ℕ
 numberOf Done = 0
 numberOf NoCommand = 31
@@ -31,6 +32,7 @@ unfoldable pub valueAfter : List ℕ → ℕ → ℕ → ℕ → ℤ → List �
 valueAfter to command element ddi value =
     choose (eqb (valueRefusal command element (length to)) 0) (sets to 0 (valueBytes command element ddi value)) to
 
+-- the same of an acknowledge
 unfoldable pub acknowledgeAfter : List ℕ → ℕ → ℕ → ℕ → ℕ → List ℕ
 acknowledgeAfter to element ddi errors answered =
     choose (eqb (acknowledgeRefusal element answered (length to)) 0) (sets to 0 (acknowledgeBytes element ddi errors answered)) to

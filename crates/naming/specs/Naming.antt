@@ -23,6 +23,7 @@ firstOf key x (suc n) = orElse (firstOf key x n) (cond (eqb (key n) x) (suc n) 0
 abbrev pub numberKey : List ℕ → List Entry → ℕ → ℕ
 numberKey p es i = cond (eqb (kindAt es i) 2) (elementOf p (startAt es i) .number) 65536
 
+-- a device element's type; 256, which no byte is, for any other record
 abbrev pub typeKey : List ℕ → List Entry → ℕ → ℕ
 typeKey p es i = cond (eqb (kindAt es i) 2) (elementOf p (startAt es i) .«element_type») 256
 
@@ -52,6 +53,7 @@ abbrev pub ddiOf : List ℕ → List Entry → ℕ → ℕ
 ddiOf p es zero = 0
 ddiOf p es (suc i) = numberAt 2 p (startAt es i + 5)
 
+-- a kind that an entry of a list may name: process data or a property
 abbrev pub isData : ℕ → Bool
 isData k = eqb k 3 || eqb k 4
 

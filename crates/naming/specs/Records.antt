@@ -12,11 +12,14 @@ noEntry = record { start = 0; size = 0; kind = 0; id = 0 }
 abbrev pub recordAt : List Entry → ℕ → Entry
 recordAt es i = getD es i noEntry
 
+-- where record i starts
 abbrev pub startAt : List Entry → ℕ → ℕ
 startAt es i = recordAt es i .start
 
+-- its ID
 abbrev pub idAt : List Entry → ℕ → ℕ
 idAt es i = recordAt es i .id
 
+-- the number of its kind
 abbrev pub kindAt : List Entry → ℕ → ℕ
 kindAt es i = recordAt es i .kind

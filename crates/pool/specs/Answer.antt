@@ -8,9 +8,11 @@ pub record Answer : Type 0 where
   pub number : ℕ
   pub value : ℕ
 
+-- an answer by its two numbers
 abbrev pub answer : ℕ → ℕ → Answer
 answer n v = record { number = n; value = v }
 
+-- the number and the value that each outcome stands for
 abbrev pub answerOf : Outcome → Answer
 answerOf (Records count) = answer 0 count
 answerOf Empty = answer 1 0

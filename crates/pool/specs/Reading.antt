@@ -22,9 +22,11 @@ pub record Entry : Type 0 where
 abbrev pub width : ℕ
 width = 4
 
+-- an entry as numbers, in the order of the table
 abbrev pub numbers : Entry → List ℕ
 numbers e = e .start ∷ e .size ∷ e .kind ∷ e .id ∷ []
 
+-- entries as numbers, one after the other
 abbrev pub flat : List Entry → List ℕ
 flat [] = []
 flat (e ∷ es) = numbers e ++ flat es
@@ -39,6 +41,7 @@ pub data Cause : Type 0 where
   cut : Cause
   over : Cause
 
+-- the number of a refusal by its cause
 abbrev pub causeNumber : Cause → ℕ
 causeNumber unmarked = 3
 causeNumber cut = 4
@@ -49,6 +52,7 @@ pub data Scan : Type 0 where
   records : List Entry → Scan
   refused : Cause → ℕ → Scan
 
+-- one record in front of what was found after it
 abbrev pub onto : Entry → Scan → Scan
 onto e (records es) = records (e ∷ es)
 onto e (refused c at) = refused c at
@@ -60,6 +64,7 @@ turn rest p at NoMark = refused unmarked at
 turn rest p at Cut = refused cut at
 turn rest p at (LengthOver place) = refused over place
 
+-- what is found from a place on, or nothing where the pool ends there
 abbrev pub more : Bool → Scan → Scan
 more true s = s
 more false s = records []
@@ -69,6 +74,7 @@ unfoldable pub scanFrom : ℕ → List ℕ → ℕ → Scan
 scanFrom zero p at = records []
 scanFrom (suc turns) p at = more (ltb at (length p)) (turn (scanFrom turns p) p at (extentOf p at))
 
+-- a whole pool, from its first byte on
 unfoldable pub scanOf : List ℕ → Scan
 scanOf p = scanFrom (length p) p 0
 
@@ -77,6 +83,7 @@ abbrev pub entriesIn : Scan → List Entry
 entriesIn (records es) = es
 entriesIn (refused c at) = []
 
+-- one of two answers, by a test
 abbrev pub pick : Bool → Answer → Answer → Answer
 pick true a b = a
 pick false a b = b

@@ -42,6 +42,7 @@ pub record Labels : Type 0 where
   pub localization : List ℕ
   pub extended : List ℕ
 
+-- the labels that a record is written with
 abbrev pub labelsIn : {k : Kind} {r : List ℕ} → Written k r → Labels
 labelsIn (dvc id designator version name serial structure localization extended a b c d e f g h) = record { structure = structure; localization = localization; extended = extended }
 labelsIn (det id type designator number parent count list a b c d e f g) = record { structure = []; localization = []; extended = [] }
@@ -71,5 +72,6 @@ pub record QueriesAreParts (p : List ℕ) (room : ℕ) : Type 0 where
       → (labelsNumber p room ≡ 0) × (structureLabel p room ≡ labelsIn w .structure) × (localizationLabel p room ≡ labelsIn w .localization)
       × (extendedLabel p room ≡ labelsIn w .extended ++ replicate (32 - length (labelsIn w .extended)) 0) × (extendedCount p room ≡ length (labelsIn w .extended))
 
+-- of every accepted pool, with a table of so many entries
 abbrev pub AcceptedQueries : Type 0
 AcceptedQueries = (p : List ℕ) (room : ℕ) → acceptance p room ≡ 0 → QueriesAreParts p room

@@ -11,6 +11,7 @@ use Rattle.records.specs.declared.Mark.the-variants.{Of, Unknown}
 use Rattle.records.specs.declared.Extent.{Extent}
 use Rattle.records.specs.declared.Extent.the-variants.{Ends, NoMark, Cut, LengthOver}
 
+-- one of two extents, by a test
 abbrev pub pick : Bool → Extent → Extent → Extent
 pick true a b = a
 pick false a b = b
@@ -38,6 +39,7 @@ abbrev pub fieldsEnd : List Field → List ℕ → Extent → Extent
 fieldsEnd [] p e = e
 fieldsEnd (f ∷ fs) p e = fieldsEnd fs p (next f p e)
 
+-- where the fields behind a mark end
 abbrev pub markedEnd : Mark → List ℕ → ℕ → Extent
 markedEnd (Of k) p at = fieldsEnd (layout k) p (Ends at)
 markedEnd Unknown p at = NoMark

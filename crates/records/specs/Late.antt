@@ -16,12 +16,14 @@ lateField (fixed n) p at = Ends (at + n)
 lateField (text limit) p at = pick (ltb at (length p)) (pick (leb (getD p at 0) limit) (Ends (at + 1 + getD p at 0)) (LengthOver at)) Cut
 lateField entries p at = pick (leb (at + 2) (length p)) (Ends (at + 2 + 2 * numberAt 2 p at)) Cut
 
+-- one field more, unless something was wrong before it
 abbrev pub lateNext : Field → List ℕ → Extent → Extent
 lateNext f p (Ends at) = lateField f p at
 lateNext f p NoMark = NoMark
 lateNext f p Cut = Cut
 lateNext f p (LengthOver at) = LengthOver at
 
+-- fields one after the other
 abbrev pub lateFields : List Field → List ℕ → Extent → Extent
 lateFields [] p e = e
 lateFields (f ∷ fs) p e = lateFields fs p (lateNext f p e)

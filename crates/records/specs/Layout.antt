@@ -43,6 +43,7 @@ kindNumber Dpd = 3
 kindNumber Dpt = 4
 kindNumber Dvp = 5
 
+-- the number of the kind that a mark stands for, 0 for none
 abbrev pub markNumber : Mark → ℕ
 markNumber (Of k) = kindNumber k
 markNumber Unknown = 0
@@ -54,6 +55,7 @@ same [] (y ∷ ys) = false
 same (x ∷ xs) [] = false
 same (x ∷ xs) (y ∷ ys) = eqb x y && same xs ys
 
+-- one of two marks, by a test
 abbrev pub pickMark : Bool → Mark → Mark → Mark
 pickMark true a b = a
 pickMark false a b = b

@@ -12,6 +12,7 @@ behind (fixed n) p at = at + n
 behind (text limit) p at = at + 1 + getD p at 0
 behind entries p at = at + 2 + 2 * numberAt 2 p at
 
+-- the place behind some fields that follow each other
 abbrev pub behindAll : List Field → List ℕ → ℕ → ℕ
 behindAll [] p at = at
 behindAll (f ∷ fs) p at = behindAll fs p (behind f p at)

@@ -62,6 +62,7 @@ pub data OutOfRange (p : List ℕ) (es : List Entry) (i : ℕ) : ℕ → Type 0 
 pub data Role : Type 0 where
   parent entry presentation : Role
 
+-- a parent is a device or a device element, an entry process data or a property, a presentation a value presentation
 abbrev pub Fits : Role → List Entry → ℕ → Type 0
 Fits parent es i = Is es Dvc i ⊎ Is es Det i
 Fits entry es i = Is es Dpd i ⊎ Is es Dpt i

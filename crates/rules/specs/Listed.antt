@@ -8,6 +8,7 @@ use Rattle.faults.specs.Faults.{Fault, Ascending}
 use Rattle.rules.specs.Breach.{Breach}
 use Rattle.rules.specs.Table.{breachesIn}
 
+-- the computed list has the breaches in order, and no other fault
 pub record Listed (p : List ℕ) (es : List Entry) : Type 0 where
   pub ascending : Ascending (breachesIn p es)
   pub exact : (f : Fault) → List·Memᴰ f (breachesIn p es) ↔ Breach p es (f .number) (f .rule) (f .item)

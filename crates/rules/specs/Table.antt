@@ -23,9 +23,11 @@ use Rattle.naming.specs.Naming.{firstOf, typeKey, named, kindOf, parentOf, clim
 unfoldable pub repeats : (ℕ → ℕ) → ℕ → ℕ → ℕ → Bool
 repeats key x i n = not (eqb (firstOf key x n) (suc i))
 
+-- 0, which is the ID of a device, or 65535, which names nothing
 abbrev pub badId : ℕ → Bool
 badId x = eqb x 0 || eqb x 65535
 
+-- rule 4 of a text
 unfoldable pub unsound : List ℕ → Span → Bool
 unsound p s = not (soundText (partOf p s))
 
@@ -33,6 +35,7 @@ unsound p s = not (soundText (partOf p s))
 abbrev pub badLabel : List ℕ → ℕ → ℕ → Bool
 badLabel p at j = cond (ltb j 13) (eqb (getD p (at + j) 0) 255) (not (eqb (getD p (at + j) 0) 255))
 
+-- a scale whose bits, as a number, are outside of the range
 abbrev pub badScale : ℕ → Bool
 badScale x = ltb x 0x322BCC77 || ltb 0x4CBEBC20 x
 
@@ -44,6 +47,7 @@ badSource x = eqb (x / 2 % 4) 3
 abbrev pub isParent : ℕ → Bool
 isParent k = eqb k 1 || eqb k 2
 
+-- rule 7: something is named, and it is not of a right kind
 abbrev pub wrongKind : Bool → ℕ → Bool
 wrongKind right r = not (eqb r 0) && not right
 
@@ -55,6 +59,7 @@ doubled tag m = not (eqb (tag m) 0) && among tag (tag m) m
 abbrev pub ownRows : Bool → Bool → List Row
 ownRows bad again = one 1 1 bad ∷ one 2 1 again ∷ []
 
+-- rules 3, 4 and 5 of a device
 abbrev pub deviceRows : List ℕ → Bool → Device → List Row
 deviceRows p again d =
     one 3 1 again
@@ -89,6 +94,7 @@ listRows again endless tag n = one 8 1 again ∷ one 9 1 endless ∷ many 12 2 n
 abbrev pub presentationRows : ℕ → ℕ → ℕ → List Row
 presentationRows x r k = one 6 1 (not (eqb x 65535) && eqb r 0) ∷ one 7 1 (wrongKind (eqb k 5) r) ∷ []
 
+-- rules 4 and 5 of process data
 abbrev pub dataRows : List ℕ → ProcessData → List Row
 dataRows p d =
     one 4 1 (unsound p (d .designator))
@@ -97,9 +103,11 @@ dataRows p d =
     ∷ one 5 3 (ltb 31 (d .triggers))
     ∷ []
 
+-- rule 4 of a property
 abbrev pub propertyRows : List ℕ → Property → List Row
 propertyRows p d = one 4 1 (unsound p (d .designator)) ∷ []
 
+-- rules 4 and 5 of a value presentation
 abbrev pub valueRows : List ℕ → ValuePresentation → List Row
 valueRows p v = one 4 1 (unsound p (v .unit)) ∷ one 5 1 (badScale (v .scale)) ∷ one 5 2 (ltb 7 (v .decimals)) ∷ []
 
@@ -107,6 +115,7 @@ valueRows p v = one 4 1 (unsound p (v .unit)) ∷ one 5 1 (badScale (v .scale)) 
 abbrev pub entryNamed : List ℕ → List Entry → ℕ → ℕ → ℕ
 entryNamed p es at m = named es (entryOf p at m)
 
+-- rules 6 and 7 of a presentation, by its ID
 abbrev pub presentedRows : List Entry → ℕ → List Row
 presentedRows es x = presentationRows x (named es x) (kindOf es (named es x))
 
@@ -114,6 +123,7 @@ presentedRows es x = presentationRows x (named es x) (kindOf es (named es x))
 abbrev pub elementKey : List ℕ → List Entry → ℕ → ℕ
 elementKey p es i = cond (eqb (kindAt es i) 2) (suc (elementOf p (startAt es i) .number)) 0
 
+-- all rules of a device element but 1 and 2
 abbrev pub elementRows : List ℕ → List Entry → ℕ → DeviceElement → List Row
 elementRows p es i e =
     fieldRows p e
@@ -124,6 +134,7 @@ elementRows p es i e =
     (λ (m : ℕ). tagOf p es (entryNamed p es (startAt es i) m))
     (e .entries)
 
+-- one of two tables, by a test
 abbrev pub pickRows : Bool → List Row → List Row → List Row
 pickRows true a b = a
 pickRows false a b = b
@@ -138,9 +149,11 @@ kindRows p es i k =
     (pickRows (eqb k 4) (propertyRows p (propertyOf p at) ++ presentedRows es (propertyOf p at .presentation))
     (pickRows (eqb k 5) (valueRows p (presentationOf p at)) []))))
 
+-- rule 1: the ID of a record, by the number of its kind
 abbrev pub badOwn : ℕ → ℕ → Bool
 badOwn k x = cond (eqb k 1) (not (eqb x 0)) (badId x)
 
+-- all rules of a record, in their order
 abbrev pub recordRows : List ℕ → List Entry → ℕ → List Row
 recordRows p es i =
     ownRows (badOwn (kindAt es i) (idAt es i)) (repeats (idAt es) (idAt es i) i (length es)) ++ kindRows p es i (kindAt es i)
@@ -149,6 +162,7 @@ recordRows p es i =
 abbrev pub poolRows : List ℕ → List Entry → List Row
 poolRows p es = one 10 1 (eqb (firstOf (kindAt es) 1 (length es)) 0) ∷ one 11 1 (eqb (firstOf (typeKey p es) 1 (length es)) 0) ∷ []
 
+-- the rows of a record by its number in a fault; 0 is the whole pool
 abbrev pub rowsOf : List ℕ → List Entry → ℕ → List Row
 rowsOf p es zero = poolRows p es
 rowsOf p es (suc i) = recordRows p es i
@@ -157,5 +171,6 @@ rowsOf p es (suc i) = recordRows p es i
 unfoldable pub breachesIn : List ℕ → List Entry → List Fault
 breachesIn p es = inRecords (rowsOf p es) (suc (length es))
 
+-- the breach list of a pool
 unfoldable pub breachesOf : List ℕ → List Fault
 breachesOf p = breachesIn p (entriesIn (scanOf p))

@@ -11,12 +11,15 @@ pub record Reply : Type 0 where
   pub place : ℕ
   pub first : Fault
 
+-- a number with its place, and no fault
 abbrev pub reply : ℕ → ℕ → Reply
 reply n place = record { number = n; place = place; first = fault 0 0 0 }
 
+-- 24 with the first fault
 abbrev pub faulty : Fault → Reply
 faulty f = record { number = 24; place = 0; first = f }
 
+-- the number, place and fault that each answer stands for
 abbrev pub replyOf : Answer → Reply
 replyOf Done = reply 0 0
 replyOf (NoMark at) = reply 3 at

@@ -18,6 +18,7 @@ newSession = record { announced = 0; received = 0; kept = 0; stage = 0; active =
 abbrev pub isOffered : Session → Bool
 isOffered s = eqb (s .stage) 1
 
+-- a pool is active
 abbrev pub isActive : Session → Bool
 isActive s = eqb (s .active) 1
 
@@ -45,6 +46,7 @@ causes s =
     ∷ (not (isOffered s) && not (eqb (s .received) 0))
     ∷ []
 
+-- 27: one of the causes holds
 unfoldable pub impossible : Session → Bool
 impossible s = anyOf (causes s)
 
@@ -53,6 +55,7 @@ pub record Told : Type 0 where
   pub session : Session
   pub reply : Reply
 
+-- a step by its value and the reply that its answer stands for
 abbrev pub stepOf : Step → Told
 stepOf r = record { session = r .session; reply = replyOf (r .answer) }
 
@@ -60,9 +63,11 @@ stepOf r = record { session = r .session; reply = replyOf (r .answer) }
 abbrev pub refused : Session → ℕ → Told
 refused s n = record { session = s; reply = reply n 0 }
 
+-- a call that is done, with the value that it leaves
 abbrev pub done : Session → Told
 done s = record { session = s; reply = reply 0 0 }
 
+-- one of two, by a test
 abbrev pub choose {ℓ} : {A : Type ℓ} → Bool → A → A → A
 choose true a b = a
 choose false a b = b
@@ -95,14 +100,17 @@ stagingAfter s piece staging =
     (sets staging (s .received) piece)
     staging
 
+-- deactivating: 25 where nothing is active
 unfoldable pub deactivateOf : Session → Told
 deactivateOf s =
     judged s
     (choose (eqb (s .active) 0) (refused s 25)
     (done (record { announced = s .announced; received = s .received; kept = s .kept; stage = s .stage; active = 0 })))
 
+-- deleting: as new
 unfoldable pub deleteOf : Session → Told
 deleteOf s = judged s (done newSession)
 
+-- a lost connection: nothing is offered or active, and the pool stays kept
 unfoldable pub lostOf : Session → Told
 lostOf s = judged s (done (record { announced = 0; received = 0; kept = s .kept; stage = 0; active = 0 }))

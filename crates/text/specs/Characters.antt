@@ -11,6 +11,7 @@ pub data Counted : Type 0 where
   Characters : ℕ → Counted
   Malformed : Counted
 
+-- one of two counts, by a test
 abbrev pub pick : Bool → Counted → Counted → Counted
 pick true a b = a
 pick false a b = b

@@ -14,10 +14,12 @@ use Rattle.text.specs.Characters.{Counted, Characters, Malformed}
 abbrev pub marked : List ℕ → Bool
 marked s = eqb (getD s 0 0) 0xEF && (eqb (getD s 1 0) 0xBB && eqb (getD s 2 0) 0xBF)
 
+-- at most 32 characters
 abbrev pub few : Counted → Bool
 few (Characters n) = leb n 32
 few Malformed = false
 
+-- rule 4 as a test: no mark in front, well-formed, and not too many characters
 unfoldable pub soundText : List ℕ → Bool
 soundText s = cond (marked s) false (few (charactersIn 0 s))
 
@@ -28,5 +30,6 @@ pub record Sound (s : List ℕ) : Type 0 where
   pub few : characters ≤ 32
   pub plain : (rest : List ℕ) → s ≡ 0xEF ∷ 0xBB ∷ 0xBF ∷ rest → ⊥
 
+-- the test holds exactly of sound texts
 abbrev pub Examined : List ℕ → Type 0
 Examined s = (soundText s ≡ true) ↔ Sound s

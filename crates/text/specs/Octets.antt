@@ -3,6 +3,7 @@ use Prim.Native.Nat.{ℕ}
 use mathlib.Core.Bool.{Bool, true, false, cond, _&&_}
 use lib.Dec.{leb}
 
+-- a byte from one value to another
 abbrev pub within : ℕ → ℕ → ℕ → Bool
 within lo hi b = leb lo b && leb b hi
 
@@ -14,9 +15,11 @@ tail b = within 0x80 0xBF b
 abbrev pub row2 : ℕ → ℕ → ℕ → ℕ → ℕ → ℕ → Bool
 row2 lo hi lo′ hi′ a b = within lo hi a && within lo′ hi′ b
 
+-- the same with a third byte, which is a tail
 abbrev pub row3 : ℕ → ℕ → ℕ → ℕ → ℕ → ℕ → ℕ → Bool
 row3 lo hi lo′ hi′ a b c = row2 lo hi lo′ hi′ a b && tail c
 
+-- and with a fourth
 abbrev pub row4 : ℕ → ℕ → ℕ → ℕ → ℕ → ℕ → ℕ → ℕ → Bool
 row4 lo hi lo′ hi′ a b c d = row3 lo hi lo′ hi′ a b c && tail d
 

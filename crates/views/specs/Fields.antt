@@ -17,6 +17,7 @@ use Rattle.records.specs.declared.ValuePresentation.{ValuePresentation}
 abbrev pub textAt : List ℕ → ℕ → Span
 textAt p at = record { from = at + 1; to = at + 1 + getD p at 0 }
 
+-- so many bytes from a place on
 abbrev pub bytesAt : ℕ → ℕ → Span
 bytesAt n at = record { from = at; to = at + n }
 
@@ -24,6 +25,7 @@ bytesAt n at = record { from = at; to = at + n }
 abbrev pub partOf : List ℕ → Span → List ℕ
 partOf p s = take (s .to - s .from) (drop (s .from) p)
 
+-- the fields of a device that starts at a place
 unfoldable pub deviceOf : List ℕ → ℕ → Device
 unfolding fieldAt layout
 deviceOf p at =
@@ -37,6 +39,7 @@ deviceOf p at =
       extended = textAt p (fieldAt Dvc 7 p at);
     }
 
+-- those of a device element
 unfoldable pub elementOf : List ℕ → ℕ → DeviceElement
 unfolding fieldAt layout
 elementOf p at =
@@ -53,6 +56,7 @@ unfoldable pub entryOf : List ℕ → ℕ → ℕ → ℕ
 unfolding fieldAt layout
 entryOf p at i = numberAt 2 p (fieldAt Det 5 p at + 2 + 2 * i)
 
+-- those of process data
 unfoldable pub processDataOf : List ℕ → ℕ → ProcessData
 unfolding fieldAt layout
 processDataOf p at =
@@ -64,6 +68,7 @@ processDataOf p at =
       presentation = numberAt 2 p (fieldAt Dpd 5 p at);
     }
 
+-- those of a property
 unfoldable pub propertyOf : List ℕ → ℕ → Property
 unfolding fieldAt layout
 propertyOf p at =
@@ -74,6 +79,7 @@ propertyOf p at =
       presentation = numberAt 2 p (fieldAt Dpt 4 p at);
     }
 
+-- those of a value presentation
 unfoldable pub presentationOf : List ℕ → ℕ → ValuePresentation
 unfolding fieldAt layout
 presentationOf p at =

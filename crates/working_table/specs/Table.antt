@@ -19,6 +19,7 @@ recordOf e = record { start = e .start; length = e .size; kind = e .kind; id = e
 abbrev pub blank : Record
 blank = record { start = 0; length = 0; kind = 0; id = 0 }
 
+-- one of two tables, by a test
 abbrev pub pickRecords : Bool → List Record → List Record → List Record
 pickRecords true a b = a
 pickRecords false a b = b
