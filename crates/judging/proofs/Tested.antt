@@ -1,18 +1,17 @@
 -- The tests of judging, each as a word of the causes. Assumes nothing.
 use mathlib.Core.Path.{_≡_, refl, sym, ap, _∙_}
-use mathlib.Core.Bool.{Bool, true, false, not, _&&_, _||_, true≢false}
-use mathlib.Core.List.{List}
+use mathlib.Core.Bool.{Bool, true, false, _&&_, _||_}
 use mathlib.Core.Logic.{_⊎_, inl, inr, ⊎-elim}
 use Prim.Native.Nat.{ℕ, zero, suc, _/_, _%_, _^_, _≤_}
 use native.Mathlib.Nat.{pow-succ', div-div-eq-div-mul}
 use native.Mathlib.Omega.{arith}
-use borrow.Author.Tests.{eq-eqb, ne-eqb, eqb-true, eqb-false, leb-true, ltb-true}
+use borrow.Author.Tests.{eqb-true, eqb-false, leb-true, ltb-true}
 use lib.Dec.{eqb, leb}
 use lib.IntN.{ℤ, pos, negsuc}
 use lib.Signed.{ltZ}
 use Rattle.messages.specs.Layout.{carriesValue}
 use Rattle.rules.specs.Breach.{Bit}
-use Rattle.rules.proofs.Truth.{untrue, both, to-both, either, to-left, to-right}
+use Rattle.rules.proofs.Truth.{both, either, to-left}
 use Rattle.judging.specs.Judging.{isClear, lacksSetting, lacksTrigger, lacksInterval}
 use Rattle.judging.specs.Causes.{Carries, Sets, Needs, Interval, Negative, below}
 

@@ -117,14 +117,19 @@ ErrorByte p es command element ddi value = FirstMatch (Cause p es command elemen
 
 -- ---- the claim
 
--- of a command for an element number up to 4095, over an accepted pool: number 0 and that error byte. For a greater element number,
--- and over another pool, there is another number, and no error byte
 pub record JudgedByCause (p : List ℕ) (room command element ddi : ℕ) (value : ℤ) : Type 0 where
-  pub judged : (judgeNumber p room element ≡ 0) ↔ ((element ≤ 4095) × (acceptance p room ≡ 0))
-  pub error : element ≤ 4095 → acceptance p room ≡ 0 → (e : ℕ)
-      → (judgeError p room command element ddi value ≡ e) ↔ ErrorByte p (entriesIn (scanOf p)) command element ddi value e
-  pub defined : element ≤ 4095 → acceptance p room ≡ 0 → (e : ℕ)
-      → (errorOf p (entriesIn (scanOf p)) command element ddi value ≡ e) ↔ ErrorByte p (entriesIn (scanOf p)) command element ddi value e
+  -- 32 for an element number over 4095, whatever the pool is, and no error byte
+  pub over : 4095 < element → (judgeNumber p room element ≡ 32) × (judgeError p room command element ddi value ≡ 0)
+  -- for another element number, a pool that is not accepted is refused as by a text query
+  pub refused : element ≤ 4095 → (acceptance p room ≡ 0 → ⊥)
+      → (judgeNumber p room element ≡ acceptance p room) × (judgeError p room command element ddi value ≡ 0)
+  -- over an accepted pool the number is 0, and the error byte is the first that has its cause
+  pub judged : element ≤ 4095 → acceptance p room ≡ 0
+      → (judgeNumber p room element ≡ 0)
+      × ((e : ℕ) → (judgeError p room command element ddi value ≡ e) ↔ ErrorByte p (entriesIn (scanOf p)) command element ddi value e)
+  -- so it is in the definition that knows of no number
+  pub defined : element ≤ 4095 → acceptance p room ≡ 0
+      → (e : ℕ) → (errorOf p (entriesIn (scanOf p)) command element ddi value ≡ e) ↔ ErrorByte p (entriesIn (scanOf p)) command element ddi value e
 
 abbrev pub ErrorIsFirstCause : Type 0
 ErrorIsFirstCause = (p : List ℕ) (room command element ddi : ℕ) (value : ℤ) → JudgedByCause p room command element ddi value
