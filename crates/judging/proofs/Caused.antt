@@ -1,4 +1,4 @@
--- The error byte is the first that has its cause. Assumes nothing.
+-- The error byte is the first whose cause applies. Assumes nothing.
 use mathlib.Core.Path.{_≡_, refl, sym, ap, _∙_, subst}
 use mathlib.Core.Bool.{Bool, true, false, cond, true≢false}
 use mathlib.Core.List.{List, [], _∷_}

@@ -1,5 +1,5 @@
--- Why a command to the device is refused, in the words of document 01, the last paragraph of "Process data messages": a cause for each
--- error byte, and the order in which they count. Nothing here says how a cause is found. Records are counted from 0. Definitions only.
+-- What can be wrong with a command to the device, in the words of document 01, the last paragraph of "Process data messages": a cause
+-- for each error byte, and which of them counts. Nothing here says how a cause is found. Records are counted from 0. Definitions only.
 use Prim.Native.Nat.{ℕ, _<_, _≤_}
 use mathlib.Core.Path.{_≡_}
 use mathlib.Core.Logic.{_↔_}
@@ -61,30 +61,30 @@ module _ (p : List ℕ) (es : List Entry) where
     data-ddi : Is es Dpd j → OfDdi j (processDataOf p (startAt es j) .ddi)
     property-ddi : Is es Dpt j → OfDdi j (propertyOf p (startAt es j) .ddi)
 
-  -- record j is such process data or property, and an entry in the list of device element i names it
+  -- record j is process data or a property of this DDI, and an entry in the list of device element i names it
   pub record InList (i ddi j : ℕ) : Type 0 where
     pub entry : ℕ
     pub there : entry < elementOf p (startAt es i) .entries
     pub names : Names es (entryOf p (startAt es i) entry) j
     pub is : OfDdi j ddi
 
-  -- record j is what a command is for: it is in the list of the element with this number
+  -- record j is the object of a command: it is in the list of the device element with this number
   pub record Object (element ddi j : ℕ) : Type 0 where
     pub owner : ℕ
     pub numbered : Numbered element owner
     pub listed : InList owner ddi j
 
-  -- process data may be settable, by property bit 1, and may have a trigger. A property is never settable and has no trigger
+  -- process data is settable if its property bit 1 is set; a property never is
   pub record Settable (j : ℕ) : Type 0 where
     pub is : Is es Dpd j
     pub bit : Bit 1 (processDataOf p (startAt es j) .properties)
 
+  -- process data has a trigger if that bit is set; a property has none
   pub record Triggered (j b : ℕ) : Type 0 where
     pub is : Is es Dpd j
     pub bit : Bit b (processDataOf p (startAt es j) .triggers)
 
-  -- ---- the causes, by error byte
-
+  -- the cause of each error byte; several may apply
   pub data Cause (command element ddi : ℕ) (value : ℤ) : ℕ → Type 0 where
     -- the command is none of 2 to 8 and A
     no-value : (Carries command → ⊥) → Cause command element ddi value 0x01
@@ -107,29 +107,31 @@ pub data FirstMatch (Applies : ℕ → Type 0) : List ℕ → ℕ → Type 0 whe
   here : {e : ℕ} {later : List ℕ} → Applies e → FirstMatch Applies (e ∷ later) e
   after : {e f : ℕ} {later : List ℕ} → (Applies e → ⊥) → FirstMatch Applies later f → FirstMatch Applies (e ∷ later) f
 
--- the order of the errors: 0x10 counts before 0x08
+-- the error bytes in the order in which they count, which is not that of the numbers
 abbrev pub errors : List ℕ
 errors = 0x01 ∷ 0x02 ∷ 0x04 ∷ 0x10 ∷ 0x08 ∷ 0x20 ∷ []
 
--- the error byte of a command is the first that has its cause, 0 where none has
+-- a command has this error byte: the first whose cause applies, 0 where none does
 abbrev pub ErrorByte : List ℕ → List Entry → ℕ → ℕ → ℕ → ℤ → ℕ → Type 0
 ErrorByte p es command element ddi value = FirstMatch (Cause p es command element ddi value) errors
 
 -- ---- the claim
 
+-- what judging a command answers, number and error byte
 pub record JudgedByCause (p : List ℕ) (room command element ddi : ℕ) (value : ℤ) : Type 0 where
   -- 32 for an element number over 4095, whatever the pool is, and no error byte
   pub over : 4095 < element → (judgeNumber p room element ≡ 32) × (judgeError p room command element ddi value ≡ 0)
   -- for another element number, a pool that is not accepted is refused as by a text query
   pub refused : element ≤ 4095 → (acceptance p room ≡ 0 → ⊥)
       → (judgeNumber p room element ≡ acceptance p room) × (judgeError p room command element ddi value ≡ 0)
-  -- over an accepted pool the number is 0, and the error byte is the first that has its cause
+  -- over an accepted pool the number is 0, and the error byte is the one above and no other
   pub judged : element ≤ 4095 → acceptance p room ≡ 0
       → (judgeNumber p room element ≡ 0)
       × ((e : ℕ) → (judgeError p room command element ddi value ≡ e) ↔ ErrorByte p (entriesIn (scanOf p)) command element ddi value e)
-  -- so it is in the definition that knows of no number
+  -- the same of `errorOf`, by which the error byte is defined
   pub defined : element ≤ 4095 → acceptance p room ≡ 0
       → (e : ℕ) → (errorOf p (entriesIn (scanOf p)) command element ddi value ≡ e) ↔ ErrorByte p (entriesIn (scanOf p)) command element ddi value e
 
+-- of every pool, table and command
 abbrev pub ErrorIsFirstCause : Type 0
 ErrorIsFirstCause = (p : List ℕ) (room command element ddi : ℕ) (value : ℤ) → JudgedByCause p room command element ddi value

@@ -313,7 +313,7 @@ pub fn accepted_names_one()
     ensures { λ _. ⌜ AcceptedNamesOne ⌝ }
 {}
 
-// The error byte is that of the first cause, in the words of the rules. This function does nothing either.
+// The error byte is the first whose cause applies, each cause in the words of the rules. This function does nothing either.
 pub fn error_is_first_cause()
     ensures { λ _. ⌜ ErrorIsFirstCause ⌝ }
 {}
