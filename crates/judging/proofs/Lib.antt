@@ -3,3 +3,5 @@ pub mod Found
 pub mod Erring
 pub mod Verdict
 pub mod Unique
+pub mod Tested
+pub mod Caused

@@ -11,6 +11,7 @@ ghost use Rattle.naming.specs.Lists.{Blank};
 ghost use Rattle.naming.specs.Chained.{Names};
 ghost use Rattle.judging.specs.Judging.{elementFor, objectFor, propertiesIn, triggersIn, lacksSetting, lacksTrigger, lacksInterval, objectError, errorOf, judgeNumber, judgeError};
 ghost use Rattle.judging.specs.One.{AcceptedNamesOne};
+ghost use Rattle.judging.specs.Causes.{ErrorIsFirstCause};
 ghost use Rattle.judging.specs.Parts.{JudgedAmong, judgedCount};
 
 // Number 0 and the error byte, or a refusal's number and 0.
@@ -310,4 +311,9 @@ pub fn judge_by(
 // the report names it.
 pub fn accepted_names_one()
     ensures { λ _. ⌜ AcceptedNamesOne ⌝ }
+{}
+
+// The error byte is the first whose cause applies, each cause in the words of the rules. This function does nothing either.
+pub fn error_is_first_cause()
+    ensures { λ _. ⌜ ErrorIsFirstCause ⌝ }
 {}
