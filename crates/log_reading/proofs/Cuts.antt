@@ -1,20 +1,17 @@
 -- 40 is given exactly if more bytes would make a whole record. Assumes nothing.
 use mathlib.Core.Path.{_≡_, refl, sym, ap, _∙_}
-use mathlib.Core.Bool.{Bool, true, false, cond, not}
 use mathlib.Core.Logic.{_⊎_, inl, inr}
 use mathlib.Core.List.{List, [], _∷_, _++_, append-assoc}
 use Prim.Native.Nat.{ℕ, zero, suc, _+_, _*_, _-_, _≤_, _<_}
 use native.Mathlib.Omega.{arith}
 use borrow.Author.Tests.{leb-true, leb-false, ltb-true, ltb-false}
 use lib.Dec.{leb, ltb}
-use lib.IntN.{natAbs}
 use lib.ListN.{length, getD, take, drop, length-append, length-drop, take-append-drop, List·getD-append}
 use lib.Seq.{length-take-le, getD-at, split-at}
 use Rattle.time_log.specs.Layout.{partWidth, placeOf, recordLength}
 use Rattle.time_log.specs.Contents.{fieldsAt, countAt, extentOf, ordinalsAt}
-use Rattle.time_log.specs.Judging.{knownStatus, anyOver, fieldsRefusal, recordRefusal}
-use Rattle.time_log.specs.declared.Fields.{Fields}
-use Rattle.time_log.proofs.Refusals.{ends-early, ends-inside, whole-record}
+use Rattle.time_log.specs.Judging.{anyOver, recordRefusal}
+use Rattle.time_log.proofs.Refusals.{not-forty, ends-early, ends-inside, whole-record}
 use Rattle.log_reading.specs.Whole.{fieldBytes, Whole, Cut, Starts, CutIsForty}
 use Rattle.log_reading.proofs.Divided.{by-case}
 
@@ -40,19 +37,6 @@ zeros-end (suc n) = ap (λ (l : List ℕ). 0 ∷ l) (zeros-end n)
 fields-end : (layout : ℕ) → placeOf layout 9 ≡ fieldBytes layout
 unfolding placeOf partWidth
 fields-end layout = refl
-
--- the fields are never why 40 is given
-not-forty : (f : Fields) (over : Bool) → fieldsRefusal f over ≡ 40 → ⊥
-unfolding fieldsRefusal
-not-forty f over = go (ltb 86399999 (f .time)) (ltb 900000000 (natAbs (f .north))) (ltb 1800000000 (natAbs (f .east))) (not (knownStatus (f .status))) over
-  where
-    go : (a b c d e : Bool) → _≡_ {A = ℕ} (cond a 41 (cond b 42 (cond c 43 (cond d 44 (cond e 45 0))))) 40 → ⊥
-    go true b c d e h = omega arith
-    go false true c d e h = omega arith
-    go false false true d e h = omega arith
-    go false false false true e h = omega arith
-    go false false false false true h = omega arith
-    go false false false false false h = omega arith
 
 module _ (layout logged : ℕ) (s : List ℕ) (small : layout ≤ 511) where
   -- the bytes end before the count byte, end after it, or have all of the record

@@ -3,7 +3,8 @@ use Prim.Native.Nat.{ℕ, _+_, _*_, _≤_, _<_}
 use mathlib.Core.Path.{_≡_}
 use mathlib.Core.Logic.{_↔_}
 use mathlib.Core.List.{List, _∷_, _++_}
-use lib.ListN.{length, getD}
+use lib.ListN.{length}
+use Rattle.wire.specs.Bytes.{Octets}
 use Rattle.time_log.specs.Layout.{mark}
 use Rattle.time_log.specs.Judging.{recordRefusal}
 
@@ -25,7 +26,7 @@ pub record Whole (layout : ℕ) (r : List ℕ) : Type 0 where
 pub record Cut (layout : ℕ) (s : List ℕ) : Type 0 where
   pub more : List ℕ
   pub some : 0 < length more
-  pub octets : (i : ℕ) → getD more i 0 < 256
+  pub octets : Octets more
   pub whole : Whole layout (s ++ more)
 
 -- bytes that start with a whole record

@@ -9,6 +9,7 @@ use lib.Dec.{eqb, ltb}
 use lib.IntN.{ℤ}
 use lib.ListN.{length, take, drop}
 use lib.Seq.{sets, sets-eq, length-sets, length-take-le}
+use Rattle.wire.specs.Bytes.{Octets}
 use Rattle.time_log.specs.Layout.{placeOf, recordLength}
 use Rattle.time_log.specs.Contents.{fieldsAt, countAt, ordinalsAt, valuesAt}
 use Rattle.time_log.specs.Judging.{anyOver, fieldsRefusal, recordRefusal}
@@ -18,7 +19,7 @@ use Rattle.log_reading.specs.declared.Record.{Record}
 use Rattle.log_reading.proofs.Prefix.{granted}
 use Rattle.log_reading.proofs.Answers.{neither, after-success}
 use Rattle.log_writing.specs.Writing.{keptFields, writeRefusal, writtenAs, bytesAfter}
-use Rattle.log_writing.specs.Again.{Octets, WrittenAgain}
+use Rattle.log_writing.specs.Again.{WrittenAgain}
 use Rattle.log_writing.proofs.Outcomes.{writable, written}
 use Rattle.log_writing.proofs.Parts.{kept-same, ordinals-first, record-again}
 

@@ -12,14 +12,13 @@ use lib.Dec.{eqb}
 use lib.IntN.{ℤ, pos}
 use lib.ListN.{length, getD, take, drop, length-drop, List·getD-append}
 use lib.Seq.{sets, sets-eq, take-add, take-at, drop-drop, drop-cons}
-use Rattle.wire.specs.Bytes.{leOf, bytesOf, numberAt, signedOf, bitsOf}
+use Rattle.wire.specs.Bytes.{Octets, leOf, bytesOf, numberAt, signedOf, bitsOf}
 use Rattle.wire.proofs.Width.{narrower}
+use Rattle.wire.proofs.Octets.{signed-again, number-again, number-fits}
 use Rattle.time_log.specs.Layout.{width, partWidth, placeOf, recordLength}
 use Rattle.time_log.specs.Contents.{partAt, fieldsAt, countAt, spaced, signedFrom, ordinalsAt, valuesAt}
 use Rattle.time_log.proofs.Parts.{width-small, part-is, place-large, part-there}
 use Rattle.log_writing.specs.Writing.{keptNumber, keptSigned, keptFields, fieldBits, bytesBefore, pairsFrom, recordBytes}
-use Rattle.log_writing.specs.Again.{Octets}
-use Rattle.log_writing.proofs.Octets.{signed-again, number-again, number-fits}
 
 -- ---- a field that is not there reads as 0, so that nothing is dropped of what was read
 no-part : (layout k : ℕ) (s : List ℕ) → partWidth layout k ≡ 0 → partAt layout s k ≡ 0
@@ -68,7 +67,7 @@ module _ (layout : ℕ) (s : List ℕ) (octets : Octets s) (counted : placeOf la
   unfolding partAt
   signed-part k h =
       ap (bytesOf (partWidth layout k))
-      (signed-again (partAt layout s k) (lt-of-lt-of-le (number-fits (partWidth layout k) (placeOf layout k) s octets (part-inside k h)) (narrower (partWidth layout k) 4 (narrow k))))
+      (signed-again (partAt layout s k) (lt-of-lt-of-le (number-fits (partWidth layout k) (placeOf layout k) s octets) (narrower (partWidth layout k) 4 (narrow k))))
       ∙ part-again k h
 
   abbrev F : ℕ → List ℕ
@@ -138,7 +137,7 @@ module _ (s : List ℕ) (octets : Octets s) (os : List ℕ) (vs : List ℤ) wher
       let e : 5 * suc m ≡ suc (4 + 5 * m) = omega arith in
       let b : bytesOf 4 (bitsOf 4 (getD vs i (pos 0))) ≡ take 4 (drop (suc at) s) =
       ap (λ (z : ℤ). bytesOf 4 (bitsOf 4 z)) (g 0 i (suc at) (omega arith) (omega arith) (omega arith))
-      ∙ ap (bytesOf 4) (signed-again (numberAt 4 s (suc at)) (number-fits 4 (suc at) s octets (omega arith)))
+      ∙ ap (bytesOf 4) (signed-again (numberAt 4 s (suc at)) (number-fits 4 (suc at) s octets))
       ∙ number-again 4 (suc at) s octets (omega arith) in
       let r : pairsFrom os vs (i + 1) m ≡ take (5 * m) (drop (at + 5) s) =
       pairs-same m (i + 1) (at + 5) (omega arith) (λ j k l u v w. f (suc j) k l (omega arith) (omega arith) (omega arith)) (λ j k l u v w. g (suc j) k l (omega arith) (omega arith) (omega arith)) in

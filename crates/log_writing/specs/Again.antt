@@ -1,17 +1,14 @@
 -- What is read is written again byte for byte. Definitions only.
-use Prim.Native.Nat.{ℕ, _≤_, _<_}
+use Prim.Native.Nat.{ℕ, _≤_}
 use mathlib.Core.Path.{_≡_}
 use mathlib.Core.List.{List, _++_}
 use lib.IntN.{ℤ}
-use lib.ListN.{length, getD, take, drop}
+use lib.ListN.{length, take, drop}
+use Rattle.wire.specs.Bytes.{Octets}
 use Rattle.time_log.specs.Layout.{recordLength}
 use Rattle.log_reading.specs.Reading.{readOf, ordinalsAfter, valuesAfter}
 use Rattle.log_reading.specs.declared.Record.{Record}
 use Rattle.log_writing.specs.Writing.{writeRefusal, writtenAs, bytesAfter}
-
--- a list of bytes
-abbrev pub Octets : List ℕ → Type 0
-Octets s = (i : ℕ) → getD s i 0 < 256
 
 -- Every record that is read into two lists is written from them, with its fields and its count, wherever there is room: the answer
 -- is its length, and what is lent then starts with the very bytes that were read and keeps the rest.

@@ -49,7 +49,7 @@ returns-3 c =
     let scale-fits : T (fits binary32 x) = search needs in
     let ok : inRange x ≡ true = sym (c .before .before .before .before .is-in-range .ensures) ∙ not-false _ (c .before .before .before .if1 .left) in
     let sum : c .before .exact-sum .result ≡ ofInt binary64 (value +ℤ offset) =
-    c .before .exact-sum .ensures ∙ rw (toZ-ofZ w32 value (start .fits .value), toZ-ofZ w32 offset offset-fits) in
+    c .before .exact-sum .ensures ∙ simp (toZ-ofZ w32 value (start .fits .value), toZ-ofZ w32 offset offset-fits) in
     record {
       answer = rw (ok, le-leb _ _ (c .before .before .if2 .left), sum);
       bits = λ z. rw sum (product-bits (value +ℤ offset) x (sum-small value offset (start .fits .value) offset-fits) scale-fits (from-least x ok) (to-greatest x ok));
