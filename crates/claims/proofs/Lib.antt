@@ -3,3 +3,4 @@ pub mod Passing
 pub mod Sorting
 pub mod Verdict
 pub mod Checking
+pub mod Displayed

@@ -1,3 +1,4 @@
 -- What the contracts of `claims` cite.
 pub mod Reads
 pub mod Checks
+pub mod Displayed

@@ -1,8 +1,9 @@
-// The claims about reading and checking. The functions do nothing: their contracts are the claims, so that the check's report names them.
+// The claims about reading and checking, and where a display keeps to the rule table. The functions do nothing: their contracts are the claims, so that the check's report names them.
 ghost use mathlib.Core.List.{List};
 ghost use Prim.Native.Nat.{ℕ};
 ghost use Rattle.claims.specs.Reads.{Reads};
 ghost use Rattle.claims.specs.Checks.{Checks};
+ghost use Rattle.claims.specs.Displayed.{FiftyIsABreach};
 
 pub fn reading_is_division()
     ensures { λ _. ⌜ ((p : List ℕ) (room : ℕ) → Reads p room) ⌝ }
@@ -10,4 +11,8 @@ pub fn reading_is_division()
 
 pub fn checking_lists_breaches()
     ensures { λ _. ⌜ Checks ⌝ }
+{}
+
+pub fn fifty_is_a_breach()
+    ensures { λ _. ⌜ FiftyIsABreach ⌝ }
 {}
