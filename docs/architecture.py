@@ -93,6 +93,7 @@ BENDS = {
     ("activation", "checker"): ("left", 9, [850], "right", -5),
     ("session", "wire"): ("right", 0, [997], "right", 0),
     ("claims", "checker"): ("left", 6, [], "right", 6),
+    ("claims", "presentation"): ("left", -9, [998, 5.5, 460], "right", 0),
     ("counting", "chains"): ("left", 0, [], "top", 0),
     ("chains", "rules"): ("bottom", 30, [10.5], "top", -30),
     ("rules", "faults"): ("right", 0, [], "left", 0),

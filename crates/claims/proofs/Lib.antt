@@ -5,3 +5,4 @@ pub mod Filled
 pub mod Verdict
 pub mod Checking
 pub mod Parts
+pub mod Displayed

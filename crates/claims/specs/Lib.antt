@@ -2,3 +2,4 @@
 pub mod Reads
 pub mod Checks
 pub mod Parts
+pub mod Displayed

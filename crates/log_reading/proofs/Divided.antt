@@ -17,7 +17,7 @@ use Rattle.log_reading.specs.declared.Log.{Log}
 use Rattle.log_reading.proofs.Prefix.{granted, extent-same, refusal-more, refusal-less}
 use Rattle.log_reading.proofs.Walks.{walk-end, walk-on, walk-stop}
 
-by-case : {P : Type 0} (t : Bool) → (t ≡ true → P) → (t ≡ false → P) → P
+pub by-case : {P : Type 0} (t : Bool) → (t ≡ true → P) → (t ≡ false → P) → P
 by-case true f g = f refl
 by-case false f g = g refl
 
@@ -31,7 +31,7 @@ extent-inside layout n = omega arith
 
 module _ (layout logged : ℕ) where
   -- the record that the bytes start with, cut off
-  first : (s : List ℕ) → recordRefusal layout logged s ≡ 0 → OneRecord layout logged (take (extentOf layout s) s)
+  pub first : (s : List ℕ) → recordRefusal layout logged s ≡ 0 → OneRecord layout logged (take (extentOf layout s) s)
   first s e =
       let g = granted layout logged s e in
       let w = extentOf layout s in

@@ -4,3 +4,5 @@ pub mod Answers
 pub mod Prefix
 pub mod Walks
 pub mod Divided
+pub mod Torn
+pub mod Cuts

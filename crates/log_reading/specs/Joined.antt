@@ -1,23 +1,25 @@
 -- A log is records joined back to back, and nothing here speaks of a walk. Definitions only.
-use Prim.Native.Nat.{ℕ, _≤_}
+use Prim.Native.Nat.{ℕ, _≤_, _<_}
 use mathlib.Core.Path.{_≡_}
-use mathlib.Core.Logic.{_↔_}
+use mathlib.Core.Logic.{_↔_, _⊎_}
 use mathlib.Core.List.{List, [], _∷_, _++_}
 use lib.ListN.{length}
 use Rattle.time_log.specs.Layout.{recordLength}
 use Rattle.time_log.specs.Contents.{countAt}
 use Rattle.time_log.specs.Judging.{recordRefusal}
-use Rattle.log_reading.specs.Logs.{wholeLog, logOf}
+use Rattle.log_reading.specs.Logs.{wholeLog, badLog, logOf}
 
 -- bytes that are one record, and nothing more
 pub record OneRecord (layout logged : ℕ) (r : List ℕ) : Type 0 where
   pub long : length r ≡ recordLength layout (countAt layout r)
   pub right : recordRefusal layout logged r ≡ 0
 
+-- every part is a record
 abbrev pub AllRecords : ℕ → ℕ → List (List ℕ) → Type 0
 AllRecords layout logged [] = Unit {0}
 AllRecords layout logged (r ∷ rs) = OneRecord layout logged r × AllRecords layout logged rs
 
+-- the parts back to back
 abbrev pub joined : List (List ℕ) → List ℕ
 joined [] = []
 joined (r ∷ rs) = r ++ joined rs
@@ -32,3 +34,18 @@ pub record Records (layout logged n : ℕ) (s : List ℕ) : Type 0 where
 -- a log is read as n records exactly where it is n records
 abbrev pub LogsAreRecords : Type 0
 LogsAreRecords = (layout logged n : ℕ) (s : List ℕ) → layout ≤ 511 → (logOf layout logged s ≡ wholeLog n) ↔ Records layout logged n s
+
+-- bytes that are whole records up to the start, and from there on others, not none, that are refused as a record
+pub record RefusedAt (layout logged number start : ℕ) (s : List ℕ) : Type 0 where
+  pub before : List (List ℕ)
+  pub records : AllRecords layout logged before
+  pub rest : List ℕ
+  pub some : 0 < length rest
+  pub same : s ≡ joined before ++ rest
+  pub cause : recordRefusal layout logged rest ≡ number
+  pub at : length (joined before) ≡ start
+
+-- a log is refused exactly for a layout bit above 8, with 47 and 0, or for such a record, with its number and its start
+abbrev pub LogsAreRefused : Type 0
+LogsAreRefused = (layout logged number start : ℕ) (s : List ℕ) → 0 < number
+    → (logOf layout logged s ≡ badLog number start) ↔ (((511 < layout) × (number ≡ 47) × (start ≡ 0)) ⊎ ((layout ≤ 511) × RefusedAt layout logged number start s))

@@ -2,3 +2,5 @@
 pub mod Reading
 pub mod Logs
 pub mod Joined
+pub mod Whole
+pub mod Worked

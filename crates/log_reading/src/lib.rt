@@ -7,7 +7,9 @@ ghost use lib.Seq.{sets};
 ghost use Rattle.time_log.specs.Contents.{spaced, signedFrom};
 ghost use Rattle.log_reading.specs.Reading.{refusedBy, readOf, ordinalsAfter, valuesAfter};
 ghost use Rattle.log_reading.specs.Logs.{logOf};
-ghost use Rattle.log_reading.specs.Joined.{LogsAreRecords};
+ghost use Rattle.log_reading.specs.Joined.{LogsAreRecords, LogsAreRefused};
+ghost use Rattle.log_reading.specs.Whole.{CutIsForty};
+ghost use Rattle.log_reading.specs.Worked.{WorkedRecords};
 
 // What reading a record gives: number 0 with its length, its count of values and its fields, or a refusal with zeros.
 #[repr(C)]
@@ -153,7 +155,24 @@ pub fn read_log(bytes: &[u8], layout: u32, logged: usize) -> Log
     }
 }
 
-// A log is read exactly where it is records joined. The function does nothing: its contract is the claim, so that the report names it.
+// The functions below do nothing: their contracts are claims, so that the report names them.
+
+// A log is read exactly if it is records joined.
 pub fn logs_are_records()
     ensures { λ _. ⌜ LogsAreRecords ⌝ }
+{}
+
+// A log is refused exactly if a bad record, or bytes that end inside one, follow whole records, or for its layout.
+pub fn logs_are_refused()
+    ensures { λ _. ⌜ LogsAreRefused ⌝ }
+{}
+
+// 40 is given exactly if more bytes would make the record whole.
+pub fn cut_is_forty()
+    ensures { λ _. ⌜ CutIsForty ⌝ }
+{}
+
+// Worked records are read as they should be, and the limits are exact.
+pub fn worked_records_hold()
+    ensures { λ _. ⌜ WorkedRecords ⌝ }
 {}

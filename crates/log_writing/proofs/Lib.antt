@@ -3,3 +3,5 @@ pub mod Ordinals
 pub mod Laying
 pub mod Outcomes
 pub mod Backward
+pub mod Parts
+pub mod Again

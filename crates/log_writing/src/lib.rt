@@ -10,6 +10,7 @@ ghost use Rattle.time_log.specs.Contents.{spaced};
 ghost use Rattle.time_log.specs.Judging.{anyOver};
 ghost use Rattle.log_writing.specs.Writing.{writeRefusal, writtenAs, bytesAfter};
 ghost use Rattle.log_writing.specs.Back.{ReadsBack};
+ghost use Rattle.log_writing.specs.Again.{WrittenAgain};
 
 // What writing a record gives: number 0 and its length, or a refusal and 0.
 #[repr(C)]
@@ -81,7 +82,14 @@ pub fn write_record(
     Written { number: 0, length }
 }
 
-// What is written reads back the same. The function does nothing: its contract is the claim, so that the report names it.
+// The functions below do nothing: their contracts are claims, so that the report names them.
+
+// What is written reads back the same.
 pub fn records_read_back()
     ensures { λ _. ⌜ ReadsBack ⌝ }
+{}
+
+// What is read is written again byte for byte.
+pub fn records_written_again()
+    ensures { λ _. ⌜ WrittenAgain ⌝ }
 {}

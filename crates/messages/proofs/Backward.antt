@@ -13,16 +13,17 @@ use lib.IntN.{ℤ, pos}
 use lib.ListN.{length, getD, take, drop}
 use lib.Seq.{sets}
 use lib.Signed.{mag}
-use Rattle.wire.specs.Bytes.{leOf, bytesOf, numberAt, signedOf, bitsOf}
+use Rattle.wire.specs.Bytes.{Octets, leOf, bytesOf, numberAt, signedOf, bitsOf}
 use Rattle.wire.proofs.Width.{back, bytes-long}
 use Rattle.wire.proofs.Complement.{bits-small, signed-bits}
 use Rattle.messages.specs.Layout.{carriesValue, headBytes, valueBytes, acknowledgeBytes, acknowledge}
 use Rattle.messages.specs.Reading.{Fields, valued, acknowledged, refused, choose, readOf}
 use Rattle.messages.specs.Writing.{valueRefusal, valueAfter, acknowledgeRefusal, acknowledgeAfter}
-use Rattle.messages.specs.Back.{Octets, ReadsBack}
+use Rattle.messages.specs.Back.{ReadsBack}
 use Rattle.messages.proofs.Laying.{command-small, first-eight}
 use Rattle.wire.proofs.Either.{neither}
-use Rattle.messages.proofs.Octets.{again, signed-again, number-small, Eight, eight}
+use Rattle.wire.proofs.Octets.{again, signed-again, number-small}
+use Rattle.messages.proofs.Eight.{Eight, eight}
 
 -- ---- written, then read
 

@@ -1,4 +1,4 @@
 -- What belongs to no one function.
-pub mod Octets
+pub mod Eight
 pub mod Laying
 pub mod Backward

@@ -7,13 +7,10 @@ use mathlib.Core.List.{List, [], _∷_, _++_}
 use lib.IntN.{ℤ}
 use lib.ListN.{length, getD, take, drop}
 use lib.Signed.{mag}
+use Rattle.wire.specs.Bytes.{Octets}
 use Rattle.messages.specs.Layout.{carriesValue, valueBytes, acknowledgeBytes}
 use Rattle.messages.specs.Reading.{valued, acknowledged, readOf}
 use Rattle.messages.specs.Writing.{valueRefusal, valueAfter, acknowledgeRefusal, acknowledgeAfter}
-
--- a list of bytes
-abbrev pub Octets : List ℕ → Type 0
-Octets s = (i : ℕ) → getD s i 0 < 256
 
 -- both ways: written and read, read and written
 pub record ReadsBack : Type 0 where

@@ -6,3 +6,4 @@ pub mod Bits
 pub mod Product
 pub mod Unique
 pub mod Worked
+pub mod Ruled

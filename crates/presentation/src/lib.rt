@@ -2,7 +2,8 @@
 ghost use mathlib.Core.Path.{_≡_};
 ghost use lib.IntN.{_+ℤ_};
 ghost use lib.Ieee.{binary64, ofInt};
-ghost use Rattle.presentation.specs.Display.{inRange, displayedOf, RoundedOnce, answerOf};
+ghost use Rattle.presentation.specs.Display.{inRange, answerOf, Shown};
+ghost use Rattle.presentation.specs.Fixed.{BitsAreFixed, FiftyIsRuleFive};
 
 pub struct Presentation {
     pub offset: i32,
@@ -37,7 +38,7 @@ fn exact_sum(value: i32, offset: i32) -> f64
 
 // Both factors are exact, so that the product alone rounds.
 pub fn display(value: i32, presentation: Presentation) -> Displayed
-    ensures { λ r. ⌜ (r ≡ displayedOf value presentation) × RoundedOnce value presentation r ⌝ }
+    ensures { λ r. ⌜ Shown value presentation (answerOf r) ⌝ }
 {
     let offset = presentation.offset;
     let scale = presentation.scale;
@@ -72,3 +73,15 @@ pub fn value_of(displayed: Displayed) -> f64
         Displayed::Refused => 0.0,
     }
 }
+
+// The functions below do nothing: their contracts are claims, so that the report names them.
+
+// Only one number can be the bits of the value.
+pub fn bits_are_fixed()
+    ensures { λ _. ⌜ BitsAreFixed ⌝ }
+{}
+
+// 50 is given exactly if the scale or the decimals break rule 5.
+pub fn fifty_is_rule_five()
+    ensures { λ _. ⌜ FiftyIsRuleFive ⌝ }
+{}

@@ -3,3 +3,4 @@ pub mod Width
 pub mod Complement
 pub mod Laid
 pub mod Either
+pub mod Octets

@@ -1,6 +1,7 @@
 -- `presentation::display` meets its contract: the casts lose nothing, so that the product is of exact factors. Assumes nothing.
 use mathlib.Core.Path.{_≡_, sym, _∙_}
 use mathlib.Core.Bool.{true}
+use native.Mathlib.Omega.{arith}
 use lib.Dec.{T}
 use lib.IntN.{_+ℤ_}
 use lib.Ieee.{fits, binary32, binary64, ofInt}
@@ -10,7 +11,7 @@ use mir.Val.{SFits}
 use mir.ValLaws.{toZ-ofZ}
 use borrow.Author.Needs.{needs}
 use borrow.Author.Tests.{lt-leb, le-leb, not-true, not-false}
-use Rattle.presentation.specs.Display.{inRange, displayedOf}
+use Rattle.presentation.specs.Display.{inRange, shownOf}
 use Rattle.presentation.proofs.Sums.{sum-small}
 use Rattle.presentation.proofs.Range.{a-number, from-least, to-greatest}
 use Rattle.presentation.proofs.Product.{product-bits}
@@ -21,12 +22,13 @@ is-in-range-requires : tie.Need-is-in-range-requires
 is-in-range-requires c κs = search needs
 
 returns : tie.Need-returns
-unfolding displayedOf
-returns c = (rw (sym (c .before .is-in-range .ensures) ∙ not-true _ (c .if1 .taken)), tt)
+unfolding shownOf
+returns c = record { answer = rw (sym (c .before .is-in-range .ensures) ∙ not-true _ (c .if1 .taken)); bits = λ z. absurd (omega (arith, z)) }
 
 returns-2 : tie.Need-returns-2
-unfolding displayedOf
-returns-2 c = (rw (sym (c .before .before .is-in-range .ensures) ∙ not-false _ (c .before .if1 .left), lt-leb _ _ (c .if2 .taken)), tt)
+unfolding shownOf
+returns-2 c =
+    record { answer = rw (sym (c .before .before .is-in-range .ensures) ∙ not-false _ (c .before .if1 .left), lt-leb _ _ (c .if2 .taken)); bits = λ z. absurd (omega (arith, z)) }
 
 exact-sum-requires : tie.Need-exact-sum-requires
 exact-sum-requires c κs = search needs
@@ -37,7 +39,7 @@ float-to-float-factor c =
     (a-number _ (sym (c .before .before .before .before .is-in-range .ensures) ∙ not-false _ (c .before .before .before .if1 .left)))
 
 returns-3 : tie.Need-returns-3
-unfolding displayedOf
+unfolding shownOf
 returns-3 c =
     let start = c .before .before .before .before .before .before in
     let value = start .args .value in
@@ -47,11 +49,11 @@ returns-3 c =
     let scale-fits : T (fits binary32 x) = search needs in
     let ok : inRange x ≡ true = sym (c .before .before .before .before .is-in-range .ensures) ∙ not-false _ (c .before .before .before .if1 .left) in
     let sum : c .before .exact-sum .result ≡ ofInt binary64 (value +ℤ offset) =
-    c .before .exact-sum .ensures ∙ rw (toZ-ofZ w32 value (start .fits .value), toZ-ofZ w32 offset offset-fits) in (
-      rw (ok, le-leb _ _ (c .before .before .if2 .left), sum),
-      rw sum
-          (product-bits (value +ℤ offset) x (sum-small value offset (start .fits .value) offset-fits) scale-fits (from-least x ok) (to-greatest x ok)),
-    )
+    c .before .exact-sum .ensures ∙ simp (toZ-ofZ w32 value (start .fits .value), toZ-ofZ w32 offset offset-fits) in
+    record {
+      answer = rw (ok, le-leb _ _ (c .before .before .if2 .left), sum);
+      bits = λ z. rw sum (product-bits (value +ℤ offset) x (sum-small value offset (start .fits .value) offset-fits) scale-fits (from-least x ok) (to-greatest x ok));
+    }
 
 pub display-spec : {M : Type 1} → statement M
 display-spec =
