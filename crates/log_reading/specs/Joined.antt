@@ -31,7 +31,7 @@ pub record Records (layout logged n : ℕ) (s : List ℕ) : Type 0 where
   pub same : s ≡ joined parts
   pub count : length parts ≡ n
 
--- a log is read as n records exactly where it is n records
+-- a log is read as n records exactly if it is n records
 abbrev pub LogsAreRecords : Type 0
 LogsAreRecords = (layout logged n : ℕ) (s : List ℕ) → layout ≤ 511 → (logOf layout logged s ≡ wholeLog n) ↔ Records layout logged n s
 

@@ -8,7 +8,8 @@ use Rattle.wire.specs.Bytes.{Octets}
 use Rattle.time_log.specs.Layout.{mark}
 use Rattle.time_log.specs.Judging.{recordRefusal}
 
--- bytes before the count byte: time and days, then north, east, up, status, PDOP, HDOP, satellites, GPS time and GPS date, where marked
+-- the bytes before the count byte: time and days, and of north, east, up, status, PDOP, HDOP, satellites, GPS time and GPS date
+-- those that are marked
 abbrev pub fieldBytes : ℕ → ℕ
 fieldBytes layout =
     4 + 2 + mark layout 0 * 4 + mark layout 1 * 4 + mark layout 2 * 4 + mark layout 3 * 1 + mark layout 4 * 2 + mark layout 5 * 2 + mark layout 6 * 1 + mark layout 7 * 4 + mark layout 8 * 2

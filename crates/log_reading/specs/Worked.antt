@@ -25,7 +25,7 @@ judged time north east status ordinal =
     recordRefusal 0x00B 2
     (bytesOf 4 time ++ (0x25 ∷ 0x24 ∷ (bytesOf 4 (bitsOf 4 north) ++ (bytesOf 4 (bitsOf 4 east) ++ (status ∷ 1 ∷ ordinal ∷ 0 ∷ 0 ∷ 0 ∷ 0 ∷ [])))))
 
--- what is read of both, record by record and as logs
+-- what is read of both, as records and as logs
 pub record RecordsRead : Type 0 where
   pub example-read : readOf 0x00B 2 example 2 2 ≡ record { number = 0; length = 26; count = 2; fields = record { time = 59520000; days = 9253; north = pos 510067800; east = pos 60348900; up = pos 0; status = 1; pdop = 0; hdop = 0; satellites = 0; «gps_time» = 0; «gps_date» = 0 } }
   pub example-ordinals : ordinalsAfter 0x00B 2 example (9 ∷ 9 ∷ 9 ∷ []) (pos 9 ∷ pos 9 ∷ []) ≡ 0 ∷ 1 ∷ 9 ∷ []
@@ -36,7 +36,7 @@ pub record RecordsRead : Type 0 where
   pub log-read : logOf 0x00B 2 (example ++ example) ≡ wholeLog 2
   pub log-cut : logOf 0x00B 2 (example ++ take 25 example) ≡ badLog 40 26
 
--- each limit from both sides; where several are passed the first in the order of the fields is named (negsuc n is -1 - n)
+-- each limit from both sides; of several values out of range the first in the order of the fields is named (negsuc n is -1 - n)
 pub record LimitsJudged : Type 0 where
   pub upper : judged 86399999 (pos 900000000) (pos 1800000000) 8 1 ≡ 0
   pub lower : judged 0 (negsuc 899999999) (negsuc 1799999999) 0 0 ≡ 0
@@ -47,7 +47,7 @@ pub record LimitsJudged : Type 0 where
   pub status : (judged 0 (pos 0) (pos 0) 9 2 ≡ 44) × (judged 0 (pos 0) (pos 0) 13 2 ≡ 44) × (judged 0 (pos 0) (pos 0) 16 2 ≡ 44)
   pub ordinal : judged 0 (pos 0) (pos 0) 8 2 ≡ 45
 
--- both
+-- the worked records as one claim
 pub record WorkedRecords : Type 0 where
   pub read : RecordsRead
   pub limits : LimitsJudged

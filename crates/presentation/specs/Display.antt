@@ -14,11 +14,12 @@ use Rattle.presentation.specs.declared.Displayed.the-variants.{Value, Re
 unfoldable pub inRange : Float → Bool
 inRange x = not (isNan x) && (leb 0x322BCC77 (toBits binary32 x) && leb (toBits binary32 x) 0x4CBEBC20)
 
--- number 0 and the value, or 50 and the f64 whose bits are 0
+-- an answer in document 01's words: a number, 0 for none, and a value
 pub record Answer : Type 0 where
   pub number : ℕ
   pub value : Float
 
+-- number 0 and the value, or 50 and the f64 whose bits are 0
 abbrev pub answerOf : Displayed → Answer
 answerOf (Value x) = record { number = 0; value = x }
 answerOf Refused = record { number = 50; value = ofBits binary64 0 }
