@@ -23,12 +23,11 @@ returns c =
     let line : List ℕ = c .before .before .add .last .0 in
     let few : length (digits (a .x)) ≤ 20 = twenty (a .x) (omega arith) in
     let long : length line ≡ 96 = search needs in
-    let next : c .put .result ≡ m + length (digits (a .x)) = c .put .ensures .1 ∙ goes-on line m (digits (a .x)) (omega arith) in
-    (
+    let next : c .put .result ≡ m + length (digits (a .x)) = c .put .ensures .1 ∙ goes-on line m (digits (a .x)) (omega arith) in (
       ap (λ (k : ℕ). take k (c .put .last .0)) next
-      ∙ ap (take (m + length (digits (a .x)))) (c .put .ensures .0)
-      ∙ added line m (digits (a .x)) (omega arith)
-      ∙ ap (λ (l : List ℕ). l ++ digits (a .x)) (c .before .before .add .ensures .0),
+          ∙ ap (take (m + length (digits (a .x)))) (c .put .ensures .0)
+          ∙ added line m (digits (a .x)) (omega arith)
+          ∙ ap (λ (l : List ℕ). l ++ digits (a .x)) (c .before .before .add .ensures .0),
       omega arith,
     )
 
