@@ -1,106 +1,112 @@
-// The lines of a listing, put into a buffer at a place; the place behind is given. What does not fit is left out: callers flush in time.
-ghost use Prim.Native.Nat.{_≤_};
+// The lines of a listing. Each is made in memory of its own, then laid over a lent buffer from a place on, and the place behind it
+// is given. A line that does not fit is left out whole: buffer and place stay as they were.
+ghost use Prim.Native.Nat.{_+_, _≤_};
 ghost use mathlib.Core.Path.{_≡_};
-ghost use lib.ListN.{length};
+ghost use mathlib.Core.List.{_++_};
+ghost use lib.ListN.{length, take};
+ghost use Rattle.wire.specs.Bytes.{laid};
+ghost use Rattle.decimal.specs.Digits.{digits, placeAfter};
+ghost use Rattle.listing.specs.Lines.{letters, countLine, recordLine, acceptedLine, faultLine, refusedLine};
 
-pub fn put(out: &mut [u8], at: usize, b: u8) -> usize
-    ensures { λ r. ⌜ length (now (out .exit)) ≡ length (now (out .entry)) ⌝ }
+// Lays bytes over the buffer, whole or not at all.
+fn lay(out: &mut [u8], at: usize, s: &[u8]) -> usize
+    ensures { λ r. ⌜ (now (out .exit) ≡ laid (now (out .entry)) at (now (s .entry))) × (r ≡ placeAfter (now (out .entry)) at (now (s .entry))) ⌝ }
 {
-    if at < out.len() {
-        out[at] = b;
-        return at + 1;
+    if wire::copy(s, out, at) {
+        return at + s.len();
     }
     at
 }
 
-pub fn put_all(out: &mut [u8], at: usize, s: &[u8]) -> usize
-    ensures { λ r. ⌜ length (now (out .exit)) ≡ length (now (out .entry)) ⌝ }
+// Adds bytes to a line that has n so far.
+fn add(line: &mut [u8; 96], n: usize, s: &[u8]) -> usize
+    requires { ⌜ n + length (now s) ≤ 96 ⌝ }
+    ensures { λ r. ⌜ (take r (now (line .exit)) ≡ take n (now (line .entry)) ++ now (s .entry)) × (r ≡ n + length (now (s .entry))) × (r ≤ length (now (line .exit))) ⌝ }
 {
-    let mut to = at;
-    let mut i: usize = 0;
-    while i < s.len() {
-        to = put(out, to, s[i]);
-        i += 1;
-    }
-    to
+    wire::copy(s, line, n);
+    n + s.len()
 }
 
-pub fn put_number(out: &mut [u8], at: usize, n: u64) -> usize
-    ensures { λ r. ⌜ length (now (out .exit)) ≡ length (now (out .entry)) ⌝ }
+// Adds a word and the digits of a number.
+fn add_number(line: &mut [u8; 96], n: usize, word: &[u8], x: u64) -> usize
+    requires { ⌜ n + length (now word) + 20 ≤ 96 ⌝ }
+    ensures { λ r. ⌜ (take r (now (line .exit)) ≡ take n (now (line .entry)) ++ now (word .entry) ++ digits x) × (r ≤ n + length (now (word .entry)) + 20) ⌝ }
 {
-    let mut digits = [0u8; 20];
-    let k = io::decimal(n, &mut digits);
-    put_all(out, at, &digits[..k])
+    let m = add(line, n, word);
+    decimal::put(line, m, x)
 }
 
-// The mark of a kind, by the kind's number.
-fn put_mark(out: &mut [u8], at: usize, kind: u16) -> usize
-    ensures { λ r. ⌜ length (now (out .exit)) ≡ length (now (out .entry)) ⌝ }
+// Begins a line with the mark of a kind, by the kind's number.
+fn begin(line: &mut [u8; 96], kind: u16) -> usize
+    ensures { λ r. ⌜ (take r (now (line .exit)) ≡ letters kind) × (r ≤ 3) ⌝ }
 {
     if kind == 1 {
-        return put_all(out, at, b"DVC");
+        return add(line, 0, b"DVC");
     }
     if kind == 2 {
-        return put_all(out, at, b"DET");
+        return add(line, 0, b"DET");
     }
     if kind == 3 {
-        return put_all(out, at, b"DPD");
+        return add(line, 0, b"DPD");
     }
     if kind == 4 {
-        return put_all(out, at, b"DPT");
+        return add(line, 0, b"DPT");
     }
-    put_all(out, at, b"DVP")
+    if kind == 5 {
+        return add(line, 0, b"DVP");
+    }
+    0
+}
+
+// The line of the count of records.
+pub fn put_count(out: &mut [u8], at: usize, count: u64) -> usize
+    ensures { λ r. ⌜ (now (out .exit) ≡ laid (now (out .entry)) at (countLine count)) × (r ≡ placeAfter (now (out .entry)) at (countLine count)) ⌝ }
+{
+    let mut line = [0u8; 96];
+    let a = add_number(&mut line, 0, b"records ", count);
+    let end = add(&mut line, a, b"\n");
+    lay(out, at, &line[..end])
 }
 
 // A record's line.
-pub fn put_record(out: &mut [u8], at: usize, start: u16, size: u16, kind: u16, id: u16) -> usize
-    ensures { λ r. ⌜ length (now (out .exit)) ≡ length (now (out .entry)) ⌝ }
+pub fn put_record(out: &mut [u8], at: usize, kind: u16, id: u16, start: u16, size: u16) -> usize
+    ensures { λ r. ⌜ (now (out .exit) ≡ laid (now (out .entry)) at (recordLine kind id start size)) × (r ≡ placeAfter (now (out .entry)) at (recordLine kind id start size)) ⌝ }
 {
-    let a = put_mark(out, at, kind);
-    let b = put(out, a, b' ');
-    let c = put_number(out, b, id as u64);
-    let d = put_all(out, c, b" at ");
-    let e = put_number(out, d, start as u64);
-    let f = put_all(out, e, b" length ");
-    let g = put_number(out, f, size as u64);
-    put(out, g, b'\n')
-}
-
-// A fault's line.
-pub fn put_fault(out: &mut [u8], at: usize, record: u16, rule: u16, item: u16) -> usize
-    ensures { λ r. ⌜ length (now (out .exit)) ≡ length (now (out .entry)) ⌝ }
-{
-    let a = put_all(out, at, b"fault ");
-    let b = put_number(out, a, record as u64);
-    let c = put(out, b, b' ');
-    let d = put_number(out, c, rule as u64);
-    let e = put(out, d, b' ');
-    let f = put_number(out, e, item as u64);
-    put(out, f, b'\n')
+    let mut line = [0u8; 96];
+    let a = begin(&mut line, kind);
+    let b = add_number(&mut line, a, b" ", id as u64);
+    let c = add_number(&mut line, b, b" at ", start as u64);
+    let d = add_number(&mut line, c, b" length ", size as u64);
+    let end = add(&mut line, d, b"\n");
+    lay(out, at, &line[..end])
 }
 
 // The line of a pool without faults.
 pub fn put_accepted(out: &mut [u8], at: usize) -> usize
-    ensures { λ r. ⌜ length (now (out .exit)) ≡ length (now (out .entry)) ⌝ }
+    ensures { λ r. ⌜ (now (out .exit) ≡ laid (now (out .entry)) at acceptedLine) × (r ≡ placeAfter (now (out .entry)) at acceptedLine) ⌝ }
 {
-    put_all(out, at, b"accepted\n")
+    lay(out, at, b"accepted\n")
 }
 
-// A line of a word and one or two numbers.
-pub fn put_records(out: &mut [u8], at: usize, count: u64) -> usize
-    ensures { λ r. ⌜ length (now (out .exit)) ≡ length (now (out .entry)) ⌝ }
+// A fault's line.
+pub fn put_fault(out: &mut [u8], at: usize, number: u16, rule: u16, item: u16) -> usize
+    ensures { λ r. ⌜ (now (out .exit) ≡ laid (now (out .entry)) at (faultLine number rule item)) × (r ≡ placeAfter (now (out .entry)) at (faultLine number rule item)) ⌝ }
 {
-    let a = put_all(out, at, b"records ");
-    let b = put_number(out, a, count);
-    put(out, b, b'\n')
+    let mut line = [0u8; 96];
+    let a = add_number(&mut line, 0, b"fault ", number as u64);
+    let b = add_number(&mut line, a, b" ", rule as u64);
+    let c = add_number(&mut line, b, b" ", item as u64);
+    let end = add(&mut line, c, b"\n");
+    lay(out, at, &line[..end])
 }
 
+// The line of a refusal.
 pub fn put_refused(out: &mut [u8], at: usize, number: u64, place: u64) -> usize
-    ensures { λ r. ⌜ length (now (out .exit)) ≡ length (now (out .entry)) ⌝ }
+    ensures { λ r. ⌜ (now (out .exit) ≡ laid (now (out .entry)) at (refusedLine number place)) × (r ≡ placeAfter (now (out .entry)) at (refusedLine number place)) ⌝ }
 {
-    let a = put_all(out, at, b"refused ");
-    let b = put_number(out, a, number);
-    let c = put(out, b, b' ');
-    let d = put_number(out, c, place);
-    put(out, d, b'\n')
+    let mut line = [0u8; 96];
+    let a = add_number(&mut line, 0, b"refused ", number);
+    let b = add_number(&mut line, a, b" ", place);
+    let end = add(&mut line, b, b"\n");
+    lay(out, at, &line[..end])
 }

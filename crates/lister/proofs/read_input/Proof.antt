@@ -1,9 +1,10 @@
 -- `lister::read_input` meets its contract. Assumes nothing.
-use mathlib.Core.Path.{_≡_, refl, _∙_}
-use Prim.Native.Nat.{_-_, _≤_}
+use mathlib.Core.Path.{_≡_, refl, ap, _∙_}
+use Prim.Native.Nat.{ℕ, _-_, _≤_, _<_}
 use native.Mathlib.Omega.{arith}
 use borrow.Author.Needs.{needs}
 use lib.ListN.{length}
+use Rattle.lister.proofs.Reading.{over, more}
 use Rattle.lister.proofs.read_input.Statement.{statement}
 use Rattle.lister.proofs.read_input.Tie as tie
 
@@ -19,47 +20,34 @@ loop-holds c = (omega arith, refl)
 read-more-requires : tie.Need-read-more-requires Inv-loop μ-loop
 read-more-requires c κs = omega arith
 
-enum-known-more : tie.Need-enum-known-more Inv-loop μ-loop
-enum-known-more c = search needs
-
-enum-told : tie.Need-enum-told Inv-loop μ-loop
-enum-told c = search needs
+enum-known-next : tie.Need-enum-known-next Inv-loop μ-loop
+enum-known-next c = search needs
 
 same-length : tie.Need-same-length Inv-loop μ-loop
-same-length c = c .before .before .before .before .read-more .ensures ∙ c .before .before .before .before .before .before .before .loop .inv .1
+same-length c = omega (arith, c .before .before .before .read-more .kept, c .before .before .before .before .before .before .loop .inv .1)
 
 returns : tie.Need-returns Inv-loop μ-loop
-returns c = c .before .before .before .before .read-more .ensures ∙ c .before .before .before .before .before .before .before .loop .inv .1
-
-same-length-2 : tie.Need-same-length-2 Inv-loop μ-loop
-same-length-2 c = c .before .before .before .before .before .before .read-more .ensures ∙ c .before .before .before .before .before .before .before .before .before .loop .inv .1
-
-returns-2 : tie.Need-returns-2 Inv-loop μ-loop
-returns-2 c = c .before .before .before .before .before .before .read-more .ensures ∙ c .before .before .before .before .before .before .before .before .before .loop .inv .1
-
-sub-if2 : tie.Need-sub-if2 Inv-loop μ-loop
-sub-if2 c = omega (arith, c .before .before .before .before .before .before .read-more .ensures)
-
-same-length-3 : tie.Need-same-length-3 Inv-loop μ-loop
-same-length-3 c = c .before .before .before .before .before .before .before .read-more .ensures ∙ c .before .before .before .before .before .before .before .before .before .before .loop .inv .1
-
-returns-3 : tie.Need-returns-3 Inv-loop μ-loop
-returns-3 c = c .before .before .before .before .before .before .before .read-more .ensures ∙ c .before .before .before .before .before .before .before .before .before .before .loop .inv .1
-
-add-n : tie.Need-add-n Inv-loop μ-loop
-add-n c = omega (arith, c .before .before .before .before .before .before .before .read-more .ensures)
+returns c =
+    let l = c .before .before .before .before .before .before .loop in
+    rw (l .inv .1) at (over (l .n) (length (l .input)) (c .before .before .before .read-more .result) (c .match .keys2) (omega arith) (c .before .before .before .read-more .ensures))
 
 loop-less : tie.Need-loop-less Inv-loop μ-loop
-loop-less c = omega (arith, c .before .before .before .before .before .before .before .read-more .ensures)
+loop-less c =
+    let l = c .before .before .before .before .before .before .before .before .loop in
+    let m = more (l .n) (length (l .input)) (c .before .next .given .0 .0) (c .before .before .before .before .before .read-more .result) (c .before .next .given .1) (c .before .before .before .before .before .read-more .ensures) in
+    omega (arith, m .0, m .1, c .before .before .before .before .before .read-more .kept)
 
 loop-again : tie.Need-loop-again Inv-loop μ-loop
-loop-again c = (omega (arith, c .before .before .before .before .before .before .before .read-more .ensures), c .before .before .before .before .before .before .before .read-more .ensures ∙ c .before .before .before .before .before .before .before .before .before .before .loop .inv .1)
+loop-again c =
+    let l = c .before .before .before .before .before .before .before .before .loop in
+    let m = more (l .n) (length (l .input)) (c .before .next .given .0 .0) (c .before .before .before .before .before .read-more .result) (c .before .next .given .1) (c .before .before .before .before .before .read-more .ensures) in
+    (omega (arith, m .0, m .1, c .before .before .before .before .before .read-more .kept), omega (arith, c .before .before .before .before .before .read-more .kept, l .inv .1))
 
-same-length-4 : tie.Need-same-length-4 Inv-loop μ-loop
-same-length-4 c = c .before .loop .inv .1
+same-length-2 : tie.Need-same-length-2 Inv-loop μ-loop
+same-length-2 c = c .before .loop .inv .1
 
-returns-4 : tie.Need-returns-4 Inv-loop μ-loop
-returns-4 c = c .before .loop .inv .1
+returns-2 : tie.Need-returns-2 Inv-loop μ-loop
+returns-2 c = omega (arith, c .before .loop .inv .0, c .before .loop .inv .1)
 
 pub read-input-spec : {M : Type 1} → statement M
 read-input-spec =
@@ -69,17 +57,10 @@ read-input-spec =
     μ-loop
     loop-holds
     read-more-requires
-    enum-known-more
-    enum-told
+    enum-known-next
     same-length
     returns
-    same-length-2
-    returns-2
-    sub-if2
-    same-length-3
-    returns-3
-    add-n
     loop-less
     loop-again
-    same-length-4
-    returns-4)
+    same-length-2
+    returns-2)

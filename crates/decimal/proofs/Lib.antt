@@ -1,0 +1,4 @@
+-- What belongs to no one function.
+pub mod Digits
+pub mod Reading
+pub mod Places

@@ -1,0 +1,27 @@
+-- Reading the input to its end: what the answers of the system's reads mean. Definitions only.
+use Prim.Native.Nat.{ℕ, zero, suc, _+_, _≤_, _<_}
+use mathlib.Core.Path.{_≡_}
+use mathlib.Core.Bool.{cond}
+use lib.Dec.{leb}
+use lib.IntN.{ℤ, pos, negsuc}
+use Rattle.lister.specs.declared.Input.{Input}
+use Rattle.lister.specs.declared.Input.the-variants.{More, Ended, Failed}
+
+-- after a read that had room for so many bytes behind n: a negative answer, or one above the room, is a failure and never the end; 0
+-- is the end; any other says how many bytes came
+unfoldable pub readOn : ℕ → ℤ → ℕ → Input
+readOn n (negsuc k) room = Failed
+readOn n (pos zero) room = Ended n
+readOn n (pos (suc k)) room = cond (leb (suc k) room) (More (n + suc k)) Failed
+
+-- reading has come further, and not past the buffer, or it has ended where it was, or failed
+abbrev pub Further : ℕ → ℕ → Input → Type 0
+Further n size (More m) = (n < m) × (m ≤ size)
+Further n size (Ended m) = m ≡ n
+Further n size Failed = Unit {0}
+
+-- reading is over: at the end of the input or of the buffer, or it failed
+abbrev pub Over : ℕ → Input → Type 0
+Over size (More m) = ⊥
+Over size (Ended m) = m ≤ size
+Over size Failed = Unit {0}

@@ -1,0 +1,2 @@
+-- What the contracts of `listing` cite, in the order to read it.
+pub mod Lines

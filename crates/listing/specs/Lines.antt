@@ -1,0 +1,55 @@
+-- The lines of a listing as bytes: document 01, "Lister and worked lines". Numbers are in decimal digits. Definitions only.
+use Prim.Native.Nat.{ℕ}
+use mathlib.Core.List.{List, [], _∷_, _++_}
+use lib.ListN.{getD}
+use Rattle.records.specs.Layout.{mark}
+use Rattle.records.specs.declared.Kind.the-variants.{Dvc, Det, Dpd, Dpt, Dvp}
+use Rattle.decimal.specs.Digits.{digits}
+
+-- a space, and what ends a line
+abbrev pub space : List ℕ
+space = 0x20 ∷ []
+
+abbrev pub newline : List ℕ
+newline = 0x0A ∷ []
+
+-- the words, each with the spaces that part it from its numbers: "records ", " at ", " length ", "fault ", "refused "
+abbrev pub recordsWord : List ℕ
+recordsWord = 0x72 ∷ 0x65 ∷ 0x63 ∷ 0x6F ∷ 0x72 ∷ 0x64 ∷ 0x73 ∷ 0x20 ∷ []
+
+abbrev pub atWord : List ℕ
+atWord = 0x20 ∷ 0x61 ∷ 0x74 ∷ 0x20 ∷ []
+
+abbrev pub lengthWord : List ℕ
+lengthWord = 0x20 ∷ 0x6C ∷ 0x65 ∷ 0x6E ∷ 0x67 ∷ 0x74 ∷ 0x68 ∷ 0x20 ∷ []
+
+abbrev pub faultWord : List ℕ
+faultWord = 0x66 ∷ 0x61 ∷ 0x75 ∷ 0x6C ∷ 0x74 ∷ 0x20 ∷ []
+
+abbrev pub refusedWord : List ℕ
+refusedWord = 0x72 ∷ 0x65 ∷ 0x66 ∷ 0x75 ∷ 0x73 ∷ 0x65 ∷ 0x64 ∷ 0x20 ∷ []
+
+-- the mark of a kind by the kind's number, which counts from 1; nothing for a number that no kind has
+unfoldable pub letters : ℕ → List ℕ
+unfolding mark
+letters kind = getD ([] ∷ mark Dvc ∷ mark Det ∷ mark Dpd ∷ mark Dpt ∷ mark Dvp ∷ []) kind []
+
+-- the count of records
+unfoldable pub countLine : ℕ → List ℕ
+countLine count = recordsWord ++ digits count ++ newline
+
+-- a record: mark, ID, start and length
+unfoldable pub recordLine : ℕ → ℕ → ℕ → ℕ → List ℕ
+recordLine kind id start size = letters kind ++ space ++ digits id ++ atWord ++ digits start ++ lengthWord ++ digits size ++ newline
+
+-- a pool without faults: "accepted"
+unfoldable pub acceptedLine : List ℕ
+acceptedLine = 0x61 ∷ 0x63 ∷ 0x63 ∷ 0x65 ∷ 0x70 ∷ 0x74 ∷ 0x65 ∷ 0x64 ∷ newline
+
+-- a fault: the record's number, the rule and the item
+unfoldable pub faultLine : ℕ → ℕ → ℕ → List ℕ
+faultLine number rule item = faultWord ++ digits number ++ space ++ digits rule ++ space ++ digits item ++ newline
+
+-- a refusal: its number and its place
+unfoldable pub refusedLine : ℕ → ℕ → List ℕ
+refusedLine number place = refusedWord ++ digits number ++ space ++ digits place ++ newline

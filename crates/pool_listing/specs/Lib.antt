@@ -1,0 +1,3 @@
+-- What the contracts of `pool_listing` cite, in the order to read it.
+pub mod Listing
+pub mod Parts

@@ -1,0 +1,23 @@
+-- Parts of a listing laid one after the other, for the private functions that do it: no public contract rests on these. Definitions only.
+use Prim.Native.Nat.{ℕ, zero, suc, _+_}
+use mathlib.Core.Path.{_≡_}
+use mathlib.Core.List.{List, [], _∷_}
+use lib.ListN.{length, getD, drop}
+use lib.Seq.{sets}
+use Rattle.faults.specs.Faults.{Fault, fault, width, written}
+
+-- bytes were laid over a buffer from a place on, and the place behind them is given
+pub record Adds (before : List ℕ) (at : ℕ) (bs after : List ℕ) (next : ℕ) : Type 0 where
+  pub laid : after ≡ sets before at bs
+  pub place : next ≡ at + length bs
+
+-- the first n faults that a buffer holds
+unfoldable pub faultsIn : ℕ → List ℕ → List Fault
+faultsIn zero buffer = []
+faultsIn (suc n) buffer = fault (getD buffer 0 0) (getD buffer 1 0) (getD buffer 2 0) ∷ faultsIn n (drop width buffer)
+
+-- a buffer of 1,024 entries holds the first of these faults, as checking writes them
+pub record Held (buffer : List ℕ) (fs : List Fault) : Type 0 where
+  pub before : List ℕ
+  pub long : length before ≡ 3072
+  pub is : buffer ≡ written before fs
