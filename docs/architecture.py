@@ -11,11 +11,11 @@ import sys
 DOCS = Path(__file__).resolve().parent
 
 # Centres of the columns and of the rows. The interface has columns of its own: all of it stands right under `terminal`.
-COLUMN = {"log": 185, "exchange": 325, "beside": 460, "spine": 605, "table": 750, "session": 925, "claim": 1070}
+COLUMN = {"log": 185, "exchange": 325, "beside": 460, "spine": 605, "table": 750, "session": 925, "claim": 1070, "lines": 1212}
 COLUMN |= {"device": 398, "command": 535, "answer": 675}
 TOP, PITCH = 100, 64
 WIDTH, HEIGHT = 124, 42
-PICTURE = 1155, 1105
+PICTURE = 1295, 1105
 
 # Each layer: its name in lines, its first row and its last.
 LAYERS = [
@@ -33,11 +33,13 @@ BOXES = {
     "c_functions": ("exchange", 0, "what C is promised"),
     "c_sessions": ("claim", 0, "the one claim, of C"),
     "terminal": ("exchange", 1, "the C boundary, a static library"),
-    "lister": ("claim", 1, "the program"),
+    "lister": ("lines", 1, "the program"),
     "device_pool": ("device", 2, "over the lent table"),
     "commands": ("command", 2, "over the lent table"),
     "answers": ("answer", 2, "as numbers for C"),
-    "listing": ("claim", 2, "its lines"),
+    "pool_listing": ("lines", 2, "a whole listing"),
+    "listing": ("lines", 3, "its lines"),
+    "decimal": ("lines", 4, "decimal digits"),
     "log_writing": ("log", 3, "log records written"),
     "presentation": ("exchange", 3, "displayed values"),
     "judging": ("spine", 3, "commands judged"),
@@ -80,11 +82,13 @@ BENDS = {
     ("c_functions", "book"): ("right", -9, [997], "left", -9),
     ("c_sessions", "terminal"): ("left", 9, [], "top", 330),
     ("c_sessions", "book"): ("right", 0, [1143], "right", 0),
-    ("answers", "session"): ("right", 0, [838], "left", 0),
+    ("answers", "session"): ("right", 9, [838], "left", 0),
     ("cases", "judging"): ("left", -9, [1000, 2.5], "top", 50),
     ("query_claims", "device"): ("bottom", 0, [], "right", 0),
-    ("query_claims", "claims"): ("bottom", 40, [5.5], "top", -30),
-    ("lister", "checker"): ("bottom", -40, [1.5, 826], "right", -15),
+    ("query_claims", "claims"): ("bottom", 40, [5.4], "top", -30),
+    ("pool_listing", "checker"): ("left", -9, [826], "right", -15),
+    ("listing", "records"): ("right", 0, [1284, 14.5], "bottom", 40),
+    ("decimal", "wire"): ("bottom", 0, [], "right", 12),
     ("checker", "working_table"): ("right", 16, [], "top", 0),
     ("commands", "judging"): ("bottom", 35, [], "top", -35),
     ("answers", "judging"): ("bottom", -35, [], "top", 35),
@@ -93,7 +97,7 @@ BENDS = {
     ("activation", "checker"): ("left", 9, [850], "right", -5),
     ("session", "wire"): ("right", 0, [997], "right", 0),
     ("claims", "checker"): ("left", 6, [], "right", 6),
-    ("claims", "presentation"): ("left", -9, [998, 5.5, 460], "right", 0),
+    ("claims", "presentation"): ("left", -9, [998, 5.56, 460], "right", 0),
     ("counting", "chains"): ("left", 0, [], "top", 0),
     ("chains", "rules"): ("bottom", 30, [10.5], "top", -30),
     ("rules", "faults"): ("right", 0, [], "left", 0),
