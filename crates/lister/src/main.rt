@@ -28,10 +28,10 @@ fn read_on(n: usize, got: isize, room: usize) -> Input
     if k == 0 {
         return Input::Ended(n);
     }
-    if room < k {
-        return Input::Failed;
+    if k <= room {
+        return Input::More(n + k);
     }
-    Input::More(n + k)
+    Input::Failed
 }
 
 fn read_more(input: &mut [u8], n: usize) -> Input
