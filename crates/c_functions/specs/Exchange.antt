@@ -32,6 +32,7 @@ acknowledge-says = record { Learnt = _; exact = λ w. refl }
 abbrev pub displayed-says : Says displayed-c.ended (λ M. displayed-c.clauses)
 displayed-says = record { Learnt = _; exact = λ w. refl }
 
+-- of whatever is given: messages are read and written, and values displayed, as the definitions say, and lent memory is left so
 pub record MessagesExchanged : Type 0 where
   pub read : (κs : Lfts 1) (s : RefT (List ℕ)) (r : MessageFields) → message-says .Learnt κs (s, tt) r (s, tt) → fieldsIn r ≡ readOf (now s)
   pub value : (κs : Lfts 1) (to : RefT (List ℕ)) (command element ddi : ℕ) (value : ℤ) (r : ℕ) (to' : List ℕ)

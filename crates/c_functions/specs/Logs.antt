@@ -37,6 +37,7 @@ written-says = record { Learnt = _; exact = λ w. refl }
 abbrev pub log-says : Says log-c.ended (λ M. log-c.clauses)
 log-says = record { Learnt = _; exact = λ w. refl }
 
+-- of whatever is given: layouts, records and logs are read, and records written, as the definitions say, and lent memory is left so
 pub record LogsKept : Type 0 where
   pub fields : (κs : Lfts 0) (layout : ℕ) (r : Marks) → fields-says .Learnt κs (layout, tt) r (layout, tt)
       → (r .number ≡ cond (ltb 511 layout) 47 0) × (r .count ≡ cond (ltb 511 layout) 0 (marksSet layout))

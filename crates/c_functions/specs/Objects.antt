@@ -42,6 +42,7 @@ property-says = record { Learnt = _; exact = λ w. refl }
 abbrev pub presentation-says : Says presentation-c.ended (λ M. presentation-c.clauses)
 presentation-says = record { Learnt = _; exact = λ w. refl }
 
+-- of whatever is given: the version, and the fields of a record from any start
 pub record ObjectsRead : Type 0 where
   pub version : (κs : Lfts 0) (r : ℕ) → version-says .Learnt κs tt r tt → r ≡ 10000
   pub device : (κs : Lfts 1) (p : RefT (List ℕ)) (start : ℕ) (r : Device) → device-says .Learnt κs (p, (start, tt)) r (p, (start, tt)) → r ≡ deviceOf (now p) start

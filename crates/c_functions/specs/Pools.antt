@@ -68,6 +68,7 @@ pub record JudgedInto (p : List ℕ) (before : List Record) (command element ddi
   pub table : element ≤ 4095 → Filled p before left
   pub stays : 4095 < element → left ≡ before
 
+-- of whatever is given: a pool is read, checked, asked and a command judged as the definitions say, and lent memory is left so
 pub record PoolsAnswered : Type 0 where
   pub read : (κs : Lfts 3) (p : RefT (List ℕ)) (t : RefT (List Record)) (v : RefT ℕ) (r : ℕ) (t' : List Record) (v' : ℕ)
       → read-says .Learnt κs (p, (t, (v, tt))) r (p, (at-last t t', (at-last v v', tt))) → ReadInto (now p) (now t) r v' t'

@@ -40,9 +40,11 @@ noFields =
 abbrev pub refusedBy : ℕ → Record
 refusedBy n = record { number = n; length = 0; count = 0; fields = noFields }
 
+-- the answer where nothing is refused
 abbrev pub wholeRecord : ℕ → List ℕ → Record
 wholeRecord layout s = record { number = 0; length = recordLength layout (countAt layout s); count = countAt layout s; fields = fieldsAt layout s }
 
+-- the answer for one record, given how many ordinals and values there is room for
 unfoldable pub readOf : ℕ → ℕ → List ℕ → ℕ → ℕ → Record
 readOf layout logged s ordinals values =
     cond (eqb (readRefusal layout logged s ordinals values) 0) (wholeRecord layout s) (refusedBy (readRefusal layout logged s ordinals values))
@@ -52,6 +54,7 @@ unfoldable pub ordinalsAfter : ℕ → ℕ → List ℕ → List ℕ → List �
 ordinalsAfter layout logged s ordinals values =
     cond (eqb (readRefusal layout logged s (length ordinals) (length values)) 0) (sets ordinals 0 (ordinalsAt layout s)) ordinals
 
+-- the list of values after the call: a record that is read is laid over its start
 unfoldable pub valuesAfter : ℕ → ℕ → List ℕ → List ℕ → List ℤ → List ℤ
 valuesAfter layout logged s ordinals values =
     cond (eqb (readRefusal layout logged s (length ordinals) (length values)) 0) (sets values 0 (valuesAt layout s)) values

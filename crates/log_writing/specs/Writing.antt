@@ -53,6 +53,7 @@ unfoldable pub pairsFrom : List ℕ → List ℤ → ℕ → ℕ → List ℕ
 pairsFrom os vs i zero = []
 pairsFrom os vs i (suc n) = getD os i 0 ∷ (bytesOf 4 (bitsOf 4 (getD vs i (pos 0))) ++ pairsFrom os vs (i + 1) n)
 
+-- a record: the fields that the layout has, the count, and the values with their ordinals
 unfoldable pub recordBytes : ℕ → Fields → ℕ → List ℕ → List ℤ → List ℕ
 recordBytes layout f n os vs = bytesBefore layout f 9 ++ (n ∷ pairsFrom os vs 0 n)
 

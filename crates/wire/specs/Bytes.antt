@@ -25,10 +25,11 @@ bytesOf (suc w) x = x % 256 ∷ bytesOf w (x / 256)
 unfoldable pub numberAt : ℕ → List ℕ → ℕ → ℕ
 numberAt w s at = leOf (take w (drop at s))
 
--- w bytes as a signed number, in two's complement, and a signed number as w bytes
+-- w bytes as a signed number, in two's complement
 unfoldable pub signedOf : ℕ → ℕ → ℤ
 signedOf w x = cond (ltb (2 * x) (256 ^ w)) (pos x) (negsuc (256 ^ w - suc x))
 
+-- a signed number as w bytes, likewise
 unfoldable pub bitsOf : ℕ → ℤ → ℕ
 bitsOf w (pos n) = n
 bitsOf w (negsuc n) = 256 ^ w - suc n
