@@ -2,3 +2,4 @@
 pub mod Pools
 pub mod Starred
 pub mod Worked
+pub mod Listings

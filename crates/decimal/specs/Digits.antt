@@ -19,6 +19,6 @@ digitsIn (suc turns) n = cond (ltb n 10) (digit n ∷ []) (digitsIn turns (n / 1
 unfoldable pub digits : ℕ → List ℕ
 digits n = digitsIn (suc n) n
 
--- the place to go on at after bytes were laid over others: behind them, or the same place where they do not fit
+-- where the next bytes go: right after these, or the same place where these do not fit
 unfoldable pub placeAfter : List ℕ → ℕ → List ℕ → ℕ
 placeAfter d at bs = cond (leb (at + length bs) (length d)) (at + length bs) at

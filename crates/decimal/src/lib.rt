@@ -4,7 +4,7 @@ ghost use Rattle.wire.specs.Bytes.{laid};
 ghost use Rattle.decimal.specs.Digits.{digits, placeAfter};
 ghost use Rattle.decimal.specs.Reading.{Spelt, OneSpelling};
 
-// Lays the digits of a number over a buffer from a place on, and gives the place behind them. Where they do not fit, nothing is
+// Writes the digits of a number into a buffer at a place, and gives the place after them. Where they do not fit, nothing is
 // written and the place is the same.
 pub fn put(out: &mut [u8], at: usize, n: u64) -> usize
     ensures { λ r. ⌜ (now (out .exit) ≡ laid (now (out .entry)) at (digits n)) × (r ≡ placeAfter (now (out .entry)) at (digits n)) ⌝ }

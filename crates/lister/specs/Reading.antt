@@ -7,8 +7,8 @@ use lib.IntN.{ℤ, pos, negsuc}
 use Rattle.lister.specs.declared.Input.{Input}
 use Rattle.lister.specs.declared.Input.the-variants.{More, Ended, Failed}
 
--- after a read that had room for so many bytes behind n: a negative answer, or one above the room, is a failure and never the end; 0
--- is the end; any other says how many bytes came
+-- what a read says when n bytes have come: a negative answer, or one above the room, is a failure and never the end; 0 is the end; any
+-- other answer is the number of bytes that came
 unfoldable pub readOn : ℕ → ℤ → ℕ → Input
 readOn n (negsuc k) room = Failed
 readOn n (pos zero) room = Ended n

@@ -15,8 +15,8 @@ enum Input {
     Failed,
 }
 
-// What a read's answer means, behind n bytes and with room for so many more. A read that fails must not pass for the input's end: what
-// came so far may divide into records and not be the whole pool.
+// What a read's answer means when n bytes have come and there is room for some more. A failed read must not pass for the input's end:
+// what came so far may divide into records and yet not be the whole pool.
 fn read_on(n: usize, got: isize, room: usize) -> Input
     requires { ⌜ n + room < 2 ^ 64 ⌝ }
     ensures { λ r. ⌜ r ≡ readOn n got room ⌝ }

@@ -1,11 +1,11 @@
--- Bytes laid behind others in a line. Assumes nothing.
-use mathlib.Core.Path.{_≡_, refl, sym, ap, _∙_}
+-- Bytes added to a line. Assumes nothing.
+use mathlib.Core.Path.{_≡_, refl, ap, _∙_}
 use mathlib.Core.List.{List, [], _++_}
 use Prim.Native.Nat.{ℕ, zero, suc, _+_, _≤_, _<_, _^_}
 use native.Mathlib.Omega.{arith}
 use borrow.Author.Tests.{le-leb}
 use lib.ListN.{length, take, drop, length-append}
-use lib.Seq.{sets, sets-eq, take-at, length-take-le}
+use lib.Seq.{sets-eq, take-at, length-take-le}
 use Rattle.wire.specs.Bytes.{laid}
 use Rattle.wire.proofs.Laid.{laid-fits}
 use Rattle.decimal.specs.Digits.{digits, placeAfter}
@@ -14,7 +14,7 @@ use Rattle.decimal.proofs.Places.{after-fits}
 use Rattle.listing.specs.Lines.{letters}
 
 module _ (d : List ℕ) (n : ℕ) (s : List ℕ) (room : n + length s ≤ length d) where
-  -- what was there before stays, and the bytes stand behind it
+  -- what was there before stays, and the bytes follow it
   pub added : take (n + length s) (laid d n s) ≡ take n d ++ s
   added =
       let front : length (take n d) ≡ n = length-take-le n d (omega arith) in

@@ -1,4 +1,4 @@
-// The lines of a listing. Each is made in memory of its own, then laid over a lent buffer from a place on, and the place behind it
+// The lines of a listing. Each is put together in memory of its own and then copied into a lent buffer at a place; the place after it
 // is given. A line that does not fit is left out whole: buffer and place stay as they were.
 ghost use Prim.Native.Nat.{_+_, _≤_};
 ghost use mathlib.Core.Path.{_≡_};

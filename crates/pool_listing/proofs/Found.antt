@@ -1,13 +1,13 @@
 -- The faults that a buffer holds, and their lines. Assumes nothing.
 use mathlib.Core.Path.{_≡_, refl, sym, ap, _∙_}
 use mathlib.Core.List.{List, [], _∷_, _++_, append-nil, append-assoc}
-use Prim.Native.Nat.{ℕ, zero, suc, _+_, _*_, _-_, _/_, _≤_, _<_}
+use Prim.Native.Nat.{ℕ, zero, suc, _+_, _*_, _/_, _≤_, _<_}
 use native.Mathlib.Nat.{not-suc-le-zero}
 use native.Mathlib.Omega.{arith}
 use native.Mathlib.Numerals.{add-one}
-use lib.ListN.{length, getD, take, drop, length-append, length-take}
+use lib.ListN.{length, getD, take, drop, length-take}
 use lib.Seq.{getD-drop, take-take, take-all, sets, sets-eq}
-use Rattle.faults.specs.Faults.{Fault, fault, width, flat, written}
+use Rattle.faults.specs.Faults.{Fault, fault, flat, written}
 use Rattle.listing.specs.Lines.{faultLine, acceptedLine}
 use Rattle.pool_listing.specs.Listing.{faultLines, findings}
 use Rattle.pool_listing.specs.Parts.{Held, faultsIn}

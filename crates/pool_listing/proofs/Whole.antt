@@ -2,23 +2,21 @@
 use mathlib.Core.Path.{_≡_, refl, sym, ap, subst, _∙_}
 use mathlib.Core.List.{List, _++_}
 use mathlib.Core.Bool.{Bool, true, false}
-use Prim.Native.Nat.{ℕ, _+_, _*_, _≤_, _<_}
+use Prim.Native.Nat.{ℕ, _+_, _≤_, _<_}
 use native.Mathlib.Omega.{arith}
 use borrow.Author.Tests.{eq-eqb, ne-eqb, eqb-true}
 use lib.Dec.{eqb}
 use lib.ListN.{length, take}
 use lib.Seq.{length-take-le}
-use Rattle.faults.specs.Faults.{Fault, written}
-use Rattle.pool.specs.Answer.{Answer, answer}
-use Rattle.pool.specs.Reading.{Entry, Scan, scanOf, entriesIn, readOf, pick}
+use Rattle.pool.specs.Answer.{answer}
+use Rattle.pool.specs.Reading.{Entry, scanOf, entriesIn, readOf, pick}
 use Rattle.pool.specs.Walk.{entriesOf, Divided, Listed}
 use Rattle.pool.proofs.Judged.{read-counted}
 use Rattle.rules.specs.Table.{breachesOf}
 use Rattle.checker.specs.Checking.{checkOf, countOf, faultsAfter}
 use Rattle.listing.specs.Lines.{countLine, refusedLine}
 use Rattle.pool_listing.specs.Listing.{recordLines, findings, readListing, listingOf}
-use Rattle.pool_listing.specs.Parts.{Adds, Held}
-use Rattle.pool_listing.proofs.Parts.{adds-then, adds-same}
+use Rattle.pool_listing.specs.Parts.{Held}
 
 -- a refusal is one line
 pub refused : (p : List ℕ) (n v : ℕ) → (n ≡ 0 → ⊥) → n ≡ checkOf p 2048 .number → v ≡ checkOf p 2048 .value → refusedLine n v ≡ listingOf p

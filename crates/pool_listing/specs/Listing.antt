@@ -5,7 +5,6 @@ use mathlib.Core.List.{List, [], _∷_, _++_}
 use lib.Dec.{eqb}
 use lib.ListN.{length, take}
 use Rattle.faults.specs.Faults.{Fault}
-use Rattle.pool.specs.Answer.{Answer}
 use Rattle.pool.specs.Reading.{Entry, scanOf, entriesIn}
 use Rattle.rules.specs.Table.{breachesOf}
 use Rattle.checker.specs.Checking.{checkOf}

@@ -6,7 +6,7 @@ use lib.ListN.{length, getD, drop}
 use lib.Seq.{sets}
 use Rattle.faults.specs.Faults.{Fault, fault, width, written}
 
--- bytes were laid over a buffer from a place on, and the place behind them is given
+-- bytes were copied into a buffer at a place, and the place after them is given
 pub record Adds (before : List ℕ) (at : ℕ) (bs after : List ℕ) (next : ℕ) : Type 0 where
   pub laid : after ≡ sets before at bs
   pub place : next ≡ at + length bs

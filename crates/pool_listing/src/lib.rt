@@ -1,5 +1,4 @@
 // The listing of a pool, laid into lent memory: the lines that the lister prints, stated by the pool's bytes alone.
-use checker::Verdict;
 use records::view;
 ghost use Prim.Native.Nat.{_+_, _*_, _≤_};
 ghost use mathlib.Core.Path.{_≡_};

@@ -1,9 +1,9 @@
 -- `lister::read_on` meets its contract. Assumes nothing.
-use mathlib.Core.Path.{_≡_, refl, sym, ap, _∙_}
-use Prim.Native.Nat.{ℕ, _+_, _≤_, _<_}
+use mathlib.Core.Path.{sym, ap, _∙_}
+use Prim.Native.Nat.{ℕ, _+_}
 use native.Mathlib.Omega.{arith}
 use borrow.Author.Needs.{needs}
-use lib.IntN.{ℤ, pos, natAbs}
+use lib.IntN.{ℤ, natAbs}
 use Rattle.lister.specs.declared.Input.the-variants.{More}
 use Rattle.lister.specs.Reading.{readOn}
 use Rattle.lister.proofs.Reading.{negative, plain, ended, above, came}

@@ -1,11 +1,9 @@
 -- `listing::lay` meets its contract. Assumes nothing.
-use mathlib.Core.Path.{_≡_, sym, _∙_}
-use mathlib.Core.Bool.{true, false}
+use mathlib.Core.Path.{sym, _∙_}
 use Prim.Native.Nat.{_+_, _≤_}
 use native.Mathlib.Omega.{arith}
 use borrow.Author.Needs.{needs}
 use borrow.Author.Tests.{leb-true}
-use lib.Dec.{leb}
 use lib.ListN.{length}
 use Rattle.decimal.proofs.Places.{after-fits, after-short}
 use Rattle.listing.proofs.lay.Statement.{statement}

@@ -6,8 +6,8 @@ use borrow.Author.Needs.{needs}
 use lib.ListN.{take}
 use lib.Seq.{length-take-le}
 use Rattle.wire.specs.Bytes.{laid}
-use Rattle.decimal.specs.Digits.{digits, placeAfter}
-use Rattle.listing.specs.Lines.{countLine, newline, recordsWord}
+use Rattle.decimal.specs.Digits.{placeAfter}
+use Rattle.listing.specs.Lines.{countLine, newline}
 use Rattle.listing.proofs.put_count.Statement.{statement}
 use Rattle.listing.proofs.put_count.Tie as tie
 

@@ -7,7 +7,7 @@ use lib.ListN.{take}
 use lib.Seq.{length-take-le}
 use Rattle.wire.specs.Bytes.{laid}
 use Rattle.decimal.specs.Digits.{digits, placeAfter}
-use Rattle.listing.specs.Lines.{faultLine, faultWord, newline, space}
+use Rattle.listing.specs.Lines.{faultLine, newline, space}
 use Rattle.listing.proofs.put_fault.Statement.{statement}
 use Rattle.listing.proofs.put_fault.Tie as tie
 

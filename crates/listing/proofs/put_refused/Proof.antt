@@ -7,7 +7,7 @@ use lib.ListN.{take}
 use lib.Seq.{length-take-le}
 use Rattle.wire.specs.Bytes.{laid}
 use Rattle.decimal.specs.Digits.{digits, placeAfter}
-use Rattle.listing.specs.Lines.{newline, refusedLine, refusedWord, space}
+use Rattle.listing.specs.Lines.{newline, refusedLine, space}
 use Rattle.listing.proofs.put_refused.Statement.{statement}
 use Rattle.listing.proofs.put_refused.Tie as tie
 
