@@ -84,6 +84,7 @@ BENDS = {
     ("c_sessions", "book"): ("right", 0, [1143], "right", 0),
     ("answers", "session"): ("right", 9, [838], "left", 0),
     ("cases", "judging"): ("left", -9, [1000, 2.5], "top", 50),
+    ("cases", "pool_listing"): ("top", 40, [], "left", 9),
     ("query_claims", "device"): ("bottom", 0, [], "right", 0),
     ("query_claims", "claims"): ("bottom", 40, [5.4], "top", -30),
     ("pool_listing", "checker"): ("left", -9, [826], "right", -15),
