@@ -1,6 +1,6 @@
 //! Independent second implementation: what the proved library answers is
-//! compared with what this one answers. It is written from the rules alone
-//! and shares no code with the library.
+//! compared with what this one answers. It is written from the rules and
+//! shares no code with the library.
 
 mod book;
 mod chains;
