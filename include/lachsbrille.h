@@ -160,7 +160,7 @@ enum lachsbrille_layout {
 
 /** Sizes. */
 enum lachsbrille_size {
-    LACHSBRILLE_RECORDS_MOST = 5461,   /**< records of a pool, 12 bytes being the least: a table of so many is never too short */
+    LACHSBRILLE_RECORDS_MOST = 5461,   /**< records of a pool, 12 bytes being the least: a table of this length is never too short */
     LACHSBRILLE_FAULT_WORDS = 3,       /**< words of a fault in the fault buffer */
     LACHSBRILLE_MESSAGE_LENGTH = 8,    /**< bytes of a message */
     LACHSBRILLE_ELEMENT_MOST = 4095,   /**< the greatest element number */
@@ -315,7 +315,7 @@ void lachsbrille_read_device(lachsbrille_device *out, const uint8_t *pool, size_
 void lachsbrille_read_element(lachsbrille_element *out, const uint8_t *pool, size_t pool_length, uint16_t start);
 
 /**
- * The ID that entry n of a device element's list names, counted from 0. From `entries` on it is no entry: the bytes behind the list
+ * The ID that entry n of a device element's list names, counted from 0. From `entries` on it is no entry: the bytes after the list
  * are read as though it went on.
  */
 uint16_t lachsbrille_read_entry(const uint8_t *pool, size_t pool_length, uint16_t start, uint16_t n);
@@ -374,7 +374,7 @@ void lachsbrille_session_offer(lachsbrille_step *out, lachsbrille_session sessio
                                const uint8_t *kept, size_t kept_length);
 
 /**
- * Takes a piece of the pool into staging, behind what has been received. Every other byte of staging stays.
+ * Takes a piece of the pool into staging, after what has been received. Every other byte of staging stays.
  *
  * 0: the piece is received.
  * 27: the session value can't arise. 21: nothing is offered. 22: the piece is empty or longer than what is still to come.
@@ -540,7 +540,7 @@ void lachsbrille_log_read_record(lachsbrille_log_record *out,
 /**
  * Writes a log record of the first `count` ordinals and values. `logged` is the log header's count of log values.
  *
- * number 0: its length; the bytes behind it stay.
+ * number 0: its length; the bytes after it stay.
  * 47: the layout has a bit above 8. 48: count is over 255 or over a list's length. 41 to 45, in field order: time, north,
  * east, status or an ordinal is out of range. 46: fewer bytes are lent than the record takes.
  */
