@@ -9,8 +9,8 @@ use lib.Ieee.{Float}
 use lib.ListN.{length}
 use Rattle.messages.specs.Reading.{readOf}
 use Rattle.messages.specs.Writing.{valueRefusal, valueAfter, acknowledgeRefusal, acknowledgeAfter}
-use Rattle.answers.specs.Exchange.{fieldsIn}
-use Rattle.answers.specs.declared.MessageFields.{MessageFields}
+use Rattle.c_answers.specs.Exchange.{fieldsIn}
+use Rattle.c_answers.specs.declared.MessageFields.{MessageFields}
 use Rattle.terminal.specs.Display.{Shows, presented}
 use Rattle.book.specs.Says.{Says}
 use Rattle.terminal.proofs.exchange.lachsbrille_message_read as message-c

@@ -16,8 +16,8 @@ use Rattle.text.specs.Examined.{Sound}
 use Rattle.checker.specs.Checking.{checkOf, faultsAfter}
 use Rattle.claims.specs.Reads.{Sized, Filled, Reads}
 use Rattle.claims.specs.Checks.{Checked}
-use Rattle.device.specs.Queries.{Labelled}
-use Rattle.device.specs.declared.DeviceLabels.{DeviceLabels}
+use Rattle.queries.specs.Queries.{Labelled}
+use Rattle.queries.specs.declared.DeviceLabels.{DeviceLabels}
 use Rattle.judging.specs.Judging.{judgeNumber, judgeError}
 use Rattle.terminal.specs.Texts.{Gives}
 use Rattle.book.specs.Says.{Says}

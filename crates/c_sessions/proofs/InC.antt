@@ -7,8 +7,8 @@ use lib.ListN.{length}
 use Rattle.session.specs.Calls as S
 use Rattle.activation.specs.Activating as Act
 use Rattle.session.specs.declared.Session.{Session}
-use Rattle.answers.specs.Steps.{stepIn}
-use Rattle.answers.specs.declared.StepFields.{StepFields}
+use Rattle.c_answers.specs.Steps.{stepIn}
+use Rattle.c_answers.specs.declared.StepFields.{StepFields}
 use Rattle.working_table.specs.declared.Record.{Record}
 use Rattle.book.specs.Book.{Call, offer, transfer, activate, deactivate, delete, lost}
 use Rattle.c_sessions.specs.InC.{inC, Does, does-offer, does-transfer, does-activate, does-deactivate, does-delete, does-lost, New, is-new}

@@ -7,7 +7,7 @@ use denote.Ref.{RefT, now, at-last}
 use contract.Lifetimes.{Lfts}
 use Rattle.faults.specs.Faults.{fault}
 use Rattle.session.specs.declared.Session.{Session}
-use Rattle.answers.specs.declared.StepFields.{StepFields}
+use Rattle.c_answers.specs.declared.StepFields.{StepFields}
 use Rattle.terminal.proofs.sessions.lachsbrille_session_new.Reads as new-reads
 use Rattle.terminal.proofs.sessions.lachsbrille_session_offer.Reads as offer-reads
 use Rattle.terminal.proofs.sessions.lachsbrille_session_transfer.Reads as transfer-reads

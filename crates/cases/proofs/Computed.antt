@@ -14,7 +14,7 @@ use Rattle.naming.specs.Naming.{firstOf, named, parentOf, climb, tagOf, among}
 use Rattle.rules.specs.Table.{repeats, unsound, doubled, kindRows, breachesIn, breachesOf}
 use Rattle.checker.specs.Checking.{checkOf}
 use Rattle.book.specs.Book.{noted, bookOf, saidOf}
-use Rattle.device.specs.Queries.{acceptance}
+use Rattle.queries.specs.Queries.{acceptance}
 use Rattle.messages.specs.Reading as messages
 use Rattle.judging.specs.Judging.{elementFor, entryFor, objectError, errorOf, judgeNumber, judgeError}
 use Rattle.cases.specs.Starred.{cases, Hold}

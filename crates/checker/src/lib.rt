@@ -31,7 +31,7 @@ pub fn check_by(p: &[u8], room: usize, starts: &mut [u16], faults: &mut [u16]) -
     match outcome {
         Outcome::Records(count) => {
             let end = count + 1;
-            let found = counting::count_faults(p, &starts[..end], faults);
+            let found = pool_breaches::count_faults(p, &starts[..end], faults);
             Verdict::Checked {
                 records: count,
                 faults: found,

@@ -4,9 +4,9 @@ use Rattle.working_table.proofs.gather.Symbol as gather-def
 use Rattle.pool.specs.Walk.{Listed}
 use Rattle.checker.specs.Checking.{countOf}
 use Rattle.checker.proofs.Tables.{check-gathers}
-use Rattle.device.specs.Queries.{Finds}
-use Rattle.device.proofs.Place as P
-use Rattle.device.proofs.Place.Laws as P′
+use Rattle.queries.specs.Queries.{Finds}
+use Rattle.queries.proofs.Place as P
+use Rattle.queries.proofs.Place.Laws as P′
 use Rattle.device_pool.proofs.Found as S
 use Rattle.device_pool.proofs.Found.Laws as S′
 use Rattle.device_pool.proofs.find_by as core

@@ -4,9 +4,9 @@ use Rattle.working_table.proofs.gather.Symbol as gather-def
 use Rattle.pool.specs.Walk.{Listed}
 use Rattle.checker.specs.Checking.{countOf}
 use Rattle.checker.proofs.Tables.{check-gathers}
-use Rattle.device.specs.Queries.{Labelled}
-use Rattle.device.proofs.DeviceLabels as P
-use Rattle.device.proofs.DeviceLabels.Laws as P′
+use Rattle.queries.specs.Queries.{Labelled}
+use Rattle.queries.proofs.DeviceLabels as P
+use Rattle.queries.proofs.DeviceLabels.Laws as P′
 use Rattle.device_pool.proofs.Shown as S
 use Rattle.device_pool.proofs.Shown.Laws as S′
 use Rattle.device_pool.proofs.labels_by as core

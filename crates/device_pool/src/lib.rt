@@ -2,8 +2,8 @@
 // `commands`'.
 // Each function has the pool walked and checked once, with a list of its records' starts. The core answers by that list, and
 // `working_table` fills the table by it.
-use device::DeviceLabels;
-use device::Place;
+use queries::DeviceLabels;
+use queries::Place;
 use working_table::Record;
 ghost use mathlib.Core.Path.{_≡_};
 ghost use Prim.Native.Nat.{_≤_};
@@ -11,7 +11,7 @@ ghost use lib.ListN.{length};
 ghost use Rattle.pool.specs.Walk.{Reaches, Listed};
 ghost use Rattle.working_table.specs.Table.{recordsAfter};
 ghost use Rattle.checker.specs.Checking.{countOf};
-ghost use Rattle.device.specs.Queries.{textNumber, textOf, Finds, Labelled};
+ghost use Rattle.queries.specs.Queries.{textNumber, textOf, Finds, Labelled};
 
 // An answer, beside how many records are listed.
 pub struct Found {
@@ -55,7 +55,7 @@ pub fn find_by(p: &[u8], room: usize, starts: &mut [u16], id: u32) -> Found
 {
     let mut faults = [0u16; 3];
     let verdict = checker::check_by(p, room, starts, &mut faults);
-    let place = device::find_in(p, room, starts, verdict, id);
+    let place = queries::find_in(p, room, starts, verdict, id);
     Found {
         records: checker::records_of(verdict),
         place,
@@ -98,7 +98,7 @@ pub fn text<'a>(p: &'a [u8], table: &mut [Record], id: u32, number: &mut u32) ->
     ensures { λ r. ⌜ (now r ≡ textOf (now (p .entry)) (length (now (table .entry))) id) × (now (number .exit) ≡ textNumber (now (p .entry)) (length (now (table .entry))) id) × (now (table .exit) ≡ recordsAfter (now (p .entry)) (now (table .entry))) ⌝ }
 {
     let place = find_text(p, table, id);
-    device::text_at(p, place, number)
+    queries::text_at(p, place, number)
 }
 
 // The labels by such a list.
@@ -108,7 +108,7 @@ fn labels_by(p: &[u8], room: usize, starts: &mut [u16]) -> Shown
 {
     let mut faults = [0u16; 3];
     let verdict = checker::check_by(p, room, starts, &mut faults);
-    let labels = device::labels_in(p, room, starts, verdict);
+    let labels = queries::labels_in(p, room, starts, verdict);
     Shown {
         records: checker::records_of(verdict),
         labels,

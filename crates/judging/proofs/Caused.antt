@@ -18,7 +18,7 @@ use Rattle.naming.proofs.First.{first-none, first-some}
 use Rattle.rules.specs.Breach.{Names, Bit, EntryDdi}
 use Rattle.rules.proofs.Names.{names-named, test-is, is-test}
 use Rattle.rules.proofs.Doubles.{ddi-tag, tag-ddi}
-use Rattle.device.specs.Queries.{acceptance}
+use Rattle.queries.specs.Queries.{acceptance}
 use Rattle.messages.specs.Layout.{carriesValue}
 use Rattle.judging.specs.Judging.{elementFor, entryFor, namedBy, objectFor, propertiesIn, triggersIn, lacksSetting, lacksTrigger, lacksInterval, objectError, errorOf, judgeNumber, judgeError}
 use Rattle.judging.specs.One.{NamesOne}

@@ -12,7 +12,7 @@ use Rattle.pool.specs.Reading.{Entry, scanOf, entriesIn}
 use Rattle.pool.specs.Walk.{entriesOf}
 use Rattle.naming.specs.Naming.{kindOf}
 use Rattle.naming.proofs.Starts.{kind-read}
-use Rattle.device.specs.Queries.{acceptance, startOf}
+use Rattle.queries.specs.Queries.{acceptance, startOf}
 use Rattle.messages.specs.Layout.{carriesValue}
 use Rattle.judging.specs.Judging.{elementFor, objectFor, propertiesIn, triggersIn, objectError, errorOf, judgeNumber, judgeError}
 use Rattle.judging.proofs.Found.{element-listed, object-listed, start-of}

@@ -10,7 +10,7 @@ use Rattle.pool.proofs.Starts.{entries-long}
 use Rattle.naming.specs.Naming.{firstOf, numberKey, named, tagOf}
 use Rattle.naming.proofs.First.{Without, to-none, to-first, first-le}
 use Rattle.naming.proofs.Starts.{start-read, named-listed}
-use Rattle.device.specs.Queries.{startOf}
+use Rattle.queries.specs.Queries.{startOf}
 use Rattle.judging.specs.Judging.{elementFor, entryFor, namedBy, objectFor}
 
 module _ (p starts : List ℕ) where

@@ -13,8 +13,8 @@ use Rattle.rules.specs.Breach.{Is, Breach, same-number, same-ddi}
 use Rattle.rules.specs.Table.{breachesIn, breachesOf}
 use Rattle.rules.proofs.Listing.{breaches-listed}
 use Rattle.rules.proofs.Doubles.{tag-ddi}
-use Rattle.device.specs.Queries.{acceptance}
-use Rattle.device.proofs.Accepted.{some-member, accepted-clean}
+use Rattle.queries.specs.Queries.{acceptance}
+use Rattle.queries.proofs.Accepted.{some-member, accepted-clean}
 use Rattle.judging.specs.One.{Element, Lists, AcceptedNamesOne}
 
 -- neither is below the other

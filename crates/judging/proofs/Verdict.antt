@@ -15,7 +15,7 @@ use Rattle.pool.specs.Walk.{entriesOf, Divided, Listed}
 use Rattle.faults.specs.Emission.{Emits}
 use Rattle.rules.specs.Table.{breachesIn, breachesOf}
 use Rattle.checker.specs.Checking.{checkOf, countOf}
-use Rattle.device.specs.Queries.{refusalIn, acceptance}
+use Rattle.queries.specs.Queries.{refusalIn, acceptance}
 use Rattle.judging.specs.Judging.{errorOf, judgeNumber, judgeError}
 use Rattle.judging.specs.Parts.{JudgedAmong, judgedCount}
 use Rattle.judging.specs.declared.Judgement.{Judgement}

@@ -10,7 +10,7 @@ use Rattle.views.specs.Fields.{elementOf, entryOf, processDataOf, propertyOf}
 use Rattle.pool.specs.Reading.{Entry, scanOf, entriesIn}
 use Rattle.naming.specs.Records.{startAt}
 use Rattle.rules.specs.Breach.{Is, Names, Bit}
-use Rattle.device.specs.Queries.{acceptance}
+use Rattle.queries.specs.Queries.{acceptance}
 use Rattle.judging.specs.Judging.{errorOf, judgeNumber, judgeError}
 
 -- ---- commands

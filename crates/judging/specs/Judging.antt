@@ -9,7 +9,7 @@ use lib.Signed.{ltZ}
 use Rattle.views.specs.Fields.{elementOf, entryOf, processDataOf}
 use Rattle.pool.specs.Reading.{Entry, scanOf, entriesIn}
 use Rattle.naming.specs.Naming.{firstOf, numberKey, named, kindOf, tagOf}
-use Rattle.device.specs.Queries.{acceptance, startOf}
+use Rattle.queries.specs.Queries.{acceptance, startOf}
 use Rattle.messages.specs.Layout.{carriesValue}
 
 -- 0x02: the device element with an element number, by its record's number from 1; 0 for none

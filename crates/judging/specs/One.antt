@@ -8,7 +8,7 @@ use Rattle.views.specs.Fields.{elementOf, entryOf}
 use Rattle.pool.specs.Reading.{Entry, scanOf, entriesIn}
 use Rattle.naming.specs.Records.{startAt, kindAt}
 use Rattle.naming.specs.Naming.{named, tagOf}
-use Rattle.device.specs.Queries.{acceptance}
+use Rattle.queries.specs.Queries.{acceptance}
 
 -- record i is a device element
 pub record Element (es : List Entry) (i : ℕ) : Type 0 where

@@ -77,7 +77,7 @@ fn find_object(p: &[u8], starts: &[u16], heads: &[u16], next: &[u16], at: u16, d
     let mut m: u16 = 0;
     while m < size {
         let named = naming::named_at(p, starts, heads, next, views::entry(p, at, m));
-        if elements::tag_at(p, starts, named) == ddi as usize + 1 {
+        if reference_rules::tag_at(p, starts, named) == ddi as usize + 1 {
             return named;
         }
         m += 1;
@@ -190,7 +190,7 @@ fn judge_named(
     ensures { λ r. ⌜ JudgedAmong (now (p .entry)) (entriesOf (now (p .entry)) (now (starts .entry))) command element ddi value r ⌝ }
 {
     let mut first = [0u16; 3];
-    if counting::put_all(p, starts, heads, next, again, endless, &mut first) != 0 {
+    if pool_breaches::put_all(p, starts, heads, next, again, endless, &mut first) != 0 {
         return Judgement {
             number: 24,
             error: 0,

@@ -34,9 +34,9 @@ use Rattle.claims.specs.Parts.{Shows}
 use Rattle.claims.proofs.Sorting.{listed-length}
 use Rattle.claims.proofs.Parts.{fields-are-parts}
 use Rattle.claims.proofs.Verdict.{reading}
-use Rattle.device.specs.Queries as Q
-use Rattle.device.specs.Queries.{acceptance, carrier, textOfRecord, textNumber, textSpan, textOf, padded, ifAccepted, labelsNumber, deviceIn, startOf, structureLabel, localizationLabel, extendedText, extendedLabel, extendedCount}
-use Rattle.device.proofs.Accepted.{accepted-clean, some-member}
+use Rattle.queries.specs.Queries as Q
+use Rattle.queries.specs.Queries.{acceptance, carrier, textOfRecord, textNumber, textSpan, textOf, padded, ifAccepted, labelsNumber, deviceIn, startOf, structureLabel, localizationLabel, extendedText, extendedLabel, extendedCount}
+use Rattle.queries.proofs.Accepted.{accepted-clean, some-member}
 use Rattle.query_claims.specs.Texts.{idIn, textIn, textsIn, labelsIn, Has, None, QueriesAreParts, AcceptedQueries}
 use Rattle.query_claims.proofs.Placed.{id-in, kind-written, written-whole, Placed, placed, Split, split-at, split-of}
 

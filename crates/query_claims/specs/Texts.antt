@@ -10,7 +10,7 @@ use Rattle.records.specs.declared.Kind.the-variants.{Dvc}
 use Rattle.division.specs.Division.{Division}
 use Rattle.division.specs.Written.{Written, dvc, det, dpd, dpt, dvp}
 use Rattle.text.specs.Examined.{Sound}
-use Rattle.device.specs.Queries.{acceptance, textNumber, textOf, labelsNumber, structureLabel, localizationLabel, extendedLabel, extendedCount}
+use Rattle.queries.specs.Queries.{acceptance, textNumber, textOf, labelsNumber, structureLabel, localizationLabel, extendedLabel, extendedCount}
 
 -- the two bytes of a record's ID
 abbrev pub idIn : {k : Kind} {r : List ℕ} → Written k r → List ℕ

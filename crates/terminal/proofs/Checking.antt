@@ -4,7 +4,7 @@ use Rattle.working_table.proofs.gather.Symbol as gather-def
 use Rattle.pool.specs.Walk.{Listed}
 use Rattle.checker.specs.Checking.{checkOf, countOf, faultsAfter}
 use Rattle.checker.proofs.Tables.{check-gathers}
-use Rattle.answers.specs.Numbers.{Says}
+use Rattle.c_answers.specs.Numbers.{Says}
 use Rattle.terminal.proofs.pools.Told as D
 use Rattle.terminal.proofs.pools.Told.Laws as D′
 use Rattle.terminal.proofs.pools.check_told as core

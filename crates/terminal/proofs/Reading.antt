@@ -5,7 +5,7 @@ use Rattle.pool.specs.Reading.{readOf}
 use Rattle.pool.specs.Walk.{Listed}
 use Rattle.checker.specs.Checking.{countOf}
 use Rattle.checker.proofs.Tables.{check-gathers}
-use Rattle.answers.specs.Numbers.{Says}
+use Rattle.c_answers.specs.Numbers.{Says}
 use Rattle.terminal.proofs.pools.Told as D
 use Rattle.terminal.proofs.pools.Told.Laws as D′
 use Rattle.terminal.proofs.pools.read_told as core

@@ -1,5 +1,5 @@
 // Process data messages for C: read, written and judged.
-use answers::MessageFields;
+use c_answers::MessageFields;
 use working_table::Record;
 ghost use mathlib.Core.Path.{_≡_};
 ghost use lib.ListN.{length};
@@ -7,14 +7,14 @@ ghost use Rattle.messages.specs.Reading.{readOf};
 ghost use Rattle.messages.specs.Writing.{valueRefusal, valueAfter, acknowledgeRefusal, acknowledgeAfter};
 ghost use Rattle.judging.specs.Judging.{judgeNumber, judgeError};
 ghost use Rattle.commands.specs.Tables.{judgedRecords};
-ghost use Rattle.answers.specs.Exchange.{fieldsIn};
+ghost use Rattle.c_answers.specs.Exchange.{fieldsIn};
 
 // Reads a message.
 #[no_mangle]
 pub extern "C" fn lachsbrille_message_read(bytes: &[u8]) -> MessageFields
     ensures { λ r. ⌜ fieldsIn r ≡ readOf (now (bytes .entry)) ⌝ }
 {
-    answers::give_message(messages::read(bytes))
+    c_answers::give_message(messages::read(bytes))
 }
 
 // Writes a value message.

@@ -1,6 +1,6 @@
 // The C interface: numbers and lent memory. A refusal is its number; what goes with it is put into a lent number. The working
 // table is a lent slice of records.
-use device::DeviceLabels;
+use queries::DeviceLabels;
 use working_table::Record;
 
 pub mod display;
@@ -16,8 +16,8 @@ ghost use Rattle.pool.specs.Reading.{readOf};
 ghost use Rattle.working_table.specs.Table.{recordsAfter};
 ghost use Rattle.text.specs.Examined.{soundText};
 ghost use Rattle.checker.specs.Checking.{checkOf, faultsAfter};
-ghost use Rattle.device.specs.Queries.{Labelled};
-ghost use Rattle.answers.specs.Numbers.{Says};
+ghost use Rattle.queries.specs.Queries.{Labelled};
+ghost use Rattle.c_answers.specs.Numbers.{Says};
 ghost use Rattle.terminal.specs.Texts.{Gives};
 
 // The release: major * 10,000 + minor * 100 + patch.

@@ -1,7 +1,7 @@
 // What the C functions over the table are made of. A pool is looked at once, with a list of its records' starts; the answer goes out as
 // numbers, and the table is filled by that list. There is a list for a pool of at most 12,276 bytes, and one for every pool: a record has
 // at least 12 bytes, and the end of the last stands behind the starts.
-use answers::StepFields;
+use c_answers::StepFields;
 use session::Session;
 use working_table::Record;
 ghost use mathlib.Core.Path.{_≡_};
@@ -16,8 +16,8 @@ ghost use Rattle.judging.specs.Parts.{judgedCount};
 ghost use Rattle.commands.specs.Tables.{judgedRecords};
 ghost use Rattle.activation.specs.Activating.{activateOf, keptAfter};
 ghost use Rattle.activation.specs.Rows.{recordsFor, ListsFor};
-ghost use Rattle.answers.specs.Steps.{stepIn};
-ghost use Rattle.answers.specs.Numbers.{Says};
+ghost use Rattle.c_answers.specs.Steps.{stepIn};
+ghost use Rattle.c_answers.specs.Numbers.{Says};
 ghost use Rattle.terminal.specs.Texts.{Gives};
 
 // An answer's number, beside how many entries of the table are then filled.
@@ -46,7 +46,7 @@ pub fn read_told(p: &[u8], room: usize, starts: &mut [u16], value: &mut usize) -
     let outcome = pool::list_for(p, room, starts);
     Told {
         records: pool::records_of(outcome),
-        number: answers::give_outcome(outcome, value),
+        number: c_answers::give_outcome(outcome, value),
     }
 }
 
@@ -64,7 +64,7 @@ pub fn check_told(
     let verdict = checker::check_by(p, room, starts, faults);
     Told {
         records: checker::records_of(verdict),
-        number: answers::give_verdict(verdict, value),
+        number: c_answers::give_verdict(verdict, value),
     }
 }
 
@@ -83,7 +83,7 @@ pub fn text_told(
     let found = device_pool::find_by(p, room, starts, id);
     Told {
         records: device_pool::found_records(found),
-        number: answers::give_place(device_pool::found_place(found), from, to),
+        number: c_answers::give_place(device_pool::found_place(found), from, to),
     }
 }
 
@@ -105,7 +105,7 @@ pub fn judge_told(
     let judgement = judged.judgement;
     Told {
         records: judged.records,
-        number: answers::give_judgement(judgement, error),
+        number: c_answers::give_judgement(judgement, error),
     }
 }
 
@@ -142,7 +142,7 @@ pub fn activate_told(
     let step = activation::activated_step(activated);
     Stepped {
         records: activation::activated_records(activated),
-        step: answers::give_step(step),
+        step: c_answers::give_step(step),
     }
 }
 

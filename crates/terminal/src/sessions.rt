@@ -1,12 +1,12 @@
 // A client's session for C: the value is the session's own, and the step goes out as numbers.
-use answers::StepFields;
+use c_answers::StepFields;
 use session::Session;
 use working_table::Record;
 ghost use mathlib.Core.Path.{_≡_};
 ghost use lib.ListN.{length};
 ghost use Rattle.session.specs.Calls.{newSession, offerOf, transferOf, stagingAfter, deactivateOf, deleteOf, lostOf};
 ghost use Rattle.activation.specs.Activating.{activateOf, keptAfter, activatedRecords};
-ghost use Rattle.answers.specs.Steps.{stepIn};
+ghost use Rattle.c_answers.specs.Steps.{stepIn};
 
 // A new session: nothing offered, kept or active.
 #[no_mangle]
@@ -26,7 +26,7 @@ pub extern "C" fn lachsbrille_session_offer(
 ) -> StepFields
     ensures { λ r. ⌜ stepIn r ≡ offerOf s size (length (now (staging .entry))) (length (now (kept .entry))) ⌝ }
 {
-    answers::give_step(session::offer(s, size, staging, kept))
+    c_answers::give_step(session::offer(s, size, staging, kept))
 }
 
 // Takes a piece into staging.
@@ -38,7 +38,7 @@ pub extern "C" fn lachsbrille_session_transfer(
 ) -> StepFields
     ensures { λ r. ⌜ (stepIn r ≡ transferOf s (now (piece .entry)) (length (now (staging .entry)))) × (now (staging .exit) ≡ stagingAfter s (now (piece .entry)) (now (staging .entry))) ⌝ }
 {
-    answers::give_step(session::transfer(s, piece, staging))
+    c_answers::give_step(session::transfer(s, piece, staging))
 }
 
 // Activates the pool that is offered, or else the one that is kept.
@@ -67,7 +67,7 @@ pub extern "C" fn lachsbrille_session_activate(
 pub extern "C" fn lachsbrille_session_deactivate(s: Session) -> StepFields
     ensures { λ r. ⌜ stepIn r ≡ deactivateOf s ⌝ }
 {
-    answers::give_step(session::deactivate(s))
+    c_answers::give_step(session::deactivate(s))
 }
 
 // Forgets the pool that is kept, and an offer.
@@ -75,7 +75,7 @@ pub extern "C" fn lachsbrille_session_deactivate(s: Session) -> StepFields
 pub extern "C" fn lachsbrille_session_delete(s: Session) -> StepFields
     ensures { λ r. ⌜ stepIn r ≡ deleteOf s ⌝ }
 {
-    answers::give_step(session::delete(s))
+    c_answers::give_step(session::delete(s))
 }
 
 // The connection is lost.
@@ -83,5 +83,5 @@ pub extern "C" fn lachsbrille_session_delete(s: Session) -> StepFields
 pub extern "C" fn lachsbrille_session_lost(s: Session) -> StepFields
     ensures { λ r. ⌜ stepIn r ≡ lostOf s ⌝ }
 {
-    answers::give_step(session::lost(s))
+    c_answers::give_step(session::lost(s))
 }

@@ -1,4 +1,4 @@
--- `device_pool::text` meets its contract: a walk of its MIR, by hand. `find_text` gets p and, for good, the table; `device::text_at` gets p, the place that was found and, for good, the number, and its result, a part of p, is handed on.
+-- `device_pool::text` meets its contract: a walk of its MIR, by hand. `find_text` gets p and, for good, the table; `queries::text_at` gets p, the place that was found and, for good, the number, and its result, a part of p, is handed on.
 -- All that the proof knows of the two is that they meet their contracts.
 -- Assumes nothing.
 use mathlib.Core.Path.{_≡_, refl, _∙_, ap, subst}
@@ -39,14 +39,14 @@ use denote.Triple.Table.{entered, cited}
 use denote.Triple.Walked.{says, Stays, gave-slice, gave-ref, stay-none-slice, stay-none, walkOf, goes-gave-slice, goes-gave-ref, goes-none-slice, goes-none, Walks, ends-at, walked, walk-meets}
 use denote.Exit.{yes}
 use Rattle.views.specs.Fields.{partOf}
-use Rattle.device.specs.Queries.{textNumber, textOf, Finds}
-use Rattle.device.specs.declared.Place.{Place}
-use Rattle.device.proofs.Place as S
-use Rattle.device.proofs.Place.Laws as S′
-use Rattle.device.proofs.text_at as core
-use Rattle.device.proofs.text_at.Symbol as core-def
-use Rattle.device.proofs.text_at.Symbol.{name as #core}
-use Rattle.device.proofs.text_at.Met as core-thm
+use Rattle.queries.specs.Queries.{textNumber, textOf, Finds}
+use Rattle.queries.specs.declared.Place.{Place}
+use Rattle.queries.proofs.Place as S
+use Rattle.queries.proofs.Place.Laws as S′
+use Rattle.queries.proofs.text_at as core
+use Rattle.queries.proofs.text_at.Symbol as core-def
+use Rattle.queries.proofs.text_at.Symbol.{name as #core}
+use Rattle.queries.proofs.text_at.Met as core-thm
 use Rattle.working_table.specs.declared.Record.{Record}
 use Rattle.working_table.specs.Table.{recordsAfter}
 use Rattle.working_table.proofs.Rec.{R}

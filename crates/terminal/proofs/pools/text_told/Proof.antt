@@ -1,7 +1,7 @@
 -- `terminal::pools::text_told` meets its contract. Assumes nothing.
 use mathlib.Core.Path.{ap, _∙_}
 use native.Mathlib.Omega.{arith}
-use Rattle.device.specs.declared.Place.{Place}
+use Rattle.queries.specs.declared.Place.{Place}
 use borrow.Author.Needs.{needs}
 use Rattle.terminal.proofs.pools.text_told.Statement.{statement}
 use Rattle.terminal.proofs.pools.text_told.Tie as tie

@@ -18,10 +18,10 @@ use Rattle.activation.specs.Rows.{recordsFor, ListsFor}
 use Rattle.activation.proofs.Filled.{records-filled}
 use Rattle.session.proofs.Session as S
 use Rattle.session.proofs.Session.Laws as S′
-use Rattle.answers.specs.Steps.{stepIn}
-use Rattle.answers.specs.declared.StepFields.{StepFields}
-use Rattle.answers.proofs.StepFields as T
-use Rattle.answers.proofs.StepFields.Laws as T′
+use Rattle.c_answers.specs.Steps.{stepIn}
+use Rattle.c_answers.specs.declared.StepFields.{StepFields}
+use Rattle.c_answers.proofs.StepFields as T
+use Rattle.c_answers.proofs.StepFields.Laws as T′
 use Rattle.terminal.proofs.pools.Stepped as D
 use Rattle.terminal.proofs.pools.Stepped.Laws as D′
 use Rattle.terminal.proofs.pools.activate_told as core

@@ -1,4 +1,0 @@
--- What the contracts of `answers` cite.
-pub mod Numbers
-pub mod Exchange
-pub mod Steps

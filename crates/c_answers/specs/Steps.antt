@@ -1,0 +1,12 @@
+-- A session call's step as the numbers that a C caller gets. Definitions only.
+use Rattle.faults.specs.Faults.{fault}
+use Rattle.session.specs.Calls.{Told}
+use Rattle.c_answers.specs.declared.StepFields.{StepFields}
+
+-- the value is the session's own; number, place and first fault are those of the reply
+abbrev pub stepIn : StepFields → Told
+stepIn r =
+    record {
+      session = r .session;
+      reply = record { number = r .number; place = r .place; first = fault (r .«record») (r .rule) (r .item) };
+    }

@@ -1,2 +1,0 @@
--- What the contracts of `counting` cite.
-pub mod Passing

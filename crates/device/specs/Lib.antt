@@ -1,3 +1,0 @@
--- What the contracts of `device` cite, in the order to read it.
-pub mod Queries
-pub mod Parts

@@ -1,0 +1,2 @@
+-- What the contracts of `pool_breaches` cite.
+pub mod Passing

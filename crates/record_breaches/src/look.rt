@@ -1,0 +1,198 @@
+// Whether a record has no fault, by one look at it, with few branches between its tests. A look may leave a record without a fault
+// undecided, and never the other way. Fields are read behind one or two tests that the pool reaches so far.
+use records::DeviceElement;
+ghost use mathlib.Core.Path.{_≡_};
+ghost use mathlib.Core.Bool.{true, false, not, _||_};
+ghost use Prim.Native.Nat.{ℕ, _+_, _*_, _≤_, _<_};
+ghost use lib.ListN.{length};
+ghost use Rattle.wire.specs.Bytes.{numberAt};
+ghost use Rattle.views.specs.Fields.{entryOf};
+ghost use Rattle.faults.specs.Rows.{AllClear};
+ghost use Rattle.pool.specs.Walk.{entriesOf};
+ghost use Rattle.naming.specs.Records.{idAt, kindAt};
+ghost use Rattle.naming.specs.Naming.{tagOf};
+ghost use Rattle.naming.specs.Chained.{Names};
+ghost use Rattle.rules.specs.Table.{badOwn, repeats, isParent, entryNamed, fieldRows, presentedRows, recordRows};
+ghost use Rattle.field_rules.specs.Clean.{Apart};
+
+// Rules 6 and 7 of a presentation's ID.
+fn is_presented(p: &[u8], starts: &[u16], heads: &[u16], next: &[u16], id: u16) -> bool
+    requires { ⌜ Names (now p) (now starts) (now heads) (now next) ⌝ }
+    ensures { λ r. ⌜ (r ≡ true → AllClear (presentedRows (entriesOf (now (p .entry)) (now (starts .entry))) id)) ⌝ }
+{
+    if id == 65535 {
+        return true;
+    }
+    let named = naming::named_at(p, starts, heads, next, id);
+    naming::kind_at(p, starts, named) == 5
+}
+
+// Whether rules 1 and 2 find nothing in record i, as one of a kind.
+fn is_own(p: &[u8], starts: &[u16], heads: &[u16], next: &[u16], i: usize, kind: u16) -> bool
+    requires { ⌜ Names (now p) (now starts) (now heads) (now next) × (i + 1 < length (now starts)) ⌝ }
+    ensures { λ r. ⌜ r ≡ not (badOwn kind (idAt (entriesOf (now (p .entry)) (now (starts .entry))) i) || repeats (idAt (entriesOf (now (p .entry)) (now (starts .entry)))) (idAt (entriesOf (now (p .entry)) (now (starts .entry))) i) i (length (entriesOf (now (p .entry)) (now (starts .entry))))) ⌝ }
+{
+    let bad = field_rules::is_bad_id(kind, records::view::id(p, starts[i]));
+    !(bad | naming::repeats_id(p, starts, heads, next, i))
+}
+
+// Process data. The look at a property differs in where the text stands and has no rule 5; both are quicker for standing apart.
+fn is_clear_data(p: &[u8], starts: &[u16], heads: &[u16], next: &[u16], i: usize) -> bool
+    requires { ⌜ Names (now p) (now starts) (now heads) (now next) × (i + 1 < length (now starts)) ⌝ }
+    ensures { λ r. ⌜ (r ≡ true → kindAt (entriesOf (now (p .entry)) (now (starts .entry))) i ≡ 3 → AllClear (recordRows (now (p .entry)) (entriesOf (now (p .entry)) (now (starts .entry))) i)) ⌝ }
+{
+    let at = starts[i];
+    let text_at = at as usize + 9;
+    if p.len() < text_at + 3 {
+        return false;
+    }
+    let to = text_at + 1 + p[text_at] as usize;
+    if p.len() < to + 2 {
+        return false;
+    }
+    let own = is_own(p, starts, heads, next, i, 3);
+    let fit = field_rules::is_fit_data(views::process_data(p, at));
+    if !((own & fit) & text::is_sound_in(p, text_at + 1, to)) {
+        return false;
+    }
+    is_presented(p, starts, heads, next, wire::pair(p, to))
+}
+
+fn is_clear_property(p: &[u8], starts: &[u16], heads: &[u16], next: &[u16], i: usize) -> bool
+    requires { ⌜ Names (now p) (now starts) (now heads) (now next) × (i + 1 < length (now starts)) ⌝ }
+    ensures { λ r. ⌜ (r ≡ true → kindAt (entriesOf (now (p .entry)) (now (starts .entry))) i ≡ 4 → AllClear (recordRows (now (p .entry)) (entriesOf (now (p .entry)) (now (starts .entry))) i)) ⌝ }
+{
+    let at = starts[i];
+    let text_at = at as usize + 11;
+    if p.len() < text_at + 3 {
+        return false;
+    }
+    let to = text_at + 1 + p[text_at] as usize;
+    if p.len() < to + 2 {
+        return false;
+    }
+    let own = is_own(p, starts, heads, next, i, 4);
+    if !(own & text::is_sound_in(p, text_at + 1, to)) {
+        return false;
+    }
+    is_presented(p, starts, heads, next, wire::pair(p, to))
+}
+
+fn is_clear_value(p: &[u8], starts: &[u16], heads: &[u16], next: &[u16], i: usize) -> bool
+    requires { ⌜ Names (now p) (now starts) (now heads) (now next) × (i + 1 < length (now starts)) ⌝ }
+    ensures { λ r. ⌜ (r ≡ true → kindAt (entriesOf (now (p .entry)) (now (starts .entry))) i ≡ 5 → AllClear (recordRows (now (p .entry)) (entriesOf (now (p .entry)) (now (starts .entry))) i)) ⌝ }
+{
+    let at = starts[i];
+    if p.len() < at as usize + 15 {
+        return false;
+    }
+    let own = is_own(p, starts, heads, next, i, 5);
+    let v = views::value_presentation(p, at);
+    (own & field_rules::is_fit_value(v)) & text::is_sound_in(p, v.unit.from, v.unit.to)
+}
+
+// Record i, which is no device element, by its kind. A device is rare, and not looked at.
+pub(crate) fn is_clear_other(
+    p: &[u8],
+    starts: &[u16],
+    heads: &[u16],
+    next: &[u16],
+    i: usize,
+    kind: u16,
+) -> bool
+    requires { ⌜ Names (now p) (now starts) (now heads) (now next) × (i + 1 < length (now starts)) × (kind ≡ kindAt (entriesOf (now p) (now starts)) i) ⌝ }
+    ensures { λ r. ⌜ (r ≡ true → AllClear (recordRows (now (p .entry)) (entriesOf (now (p .entry)) (now (starts .entry))) i)) ⌝ }
+{
+    if kind == 3 {
+        return is_clear_data(p, starts, heads, next, i);
+    }
+    if kind == 4 {
+        return is_clear_property(p, starts, heads, next, i);
+    }
+    if kind == 5 {
+        return is_clear_value(p, starts, heads, next, i);
+    }
+    false
+}
+
+// Rules 6, 7 and 12 of a list of entries. Each DDI stamps the place of its remainder with a number that records near by do not have:
+// where that stands already, the DDI may be in the list twice, and the walk over the list decides that.
+fn is_clear_list(
+    p: &[u8],
+    starts: &[u16],
+    heads: &[u16],
+    next: &[u16],
+    at: u16,
+    from: usize,
+    size: usize,
+    number: u16,
+    seen: &mut [u8],
+) -> bool
+    requires { ⌜ Names (now p) (now starts) (now heads) (now next) × (1024 ≤ length (now seen)) × (size < 65536) × (from + 2 * size ≤ length (now p)) × ((m : ℕ) → entryOf (now p) at m ≡ numberAt 2 (now p) (from + 2 * m)) ⌝ }
+    ensures { λ r. ⌜ (r ≡ true → Apart (λ (m : ℕ). tagOf (now (p .entry)) (entriesOf (now (p .entry)) (now (starts .entry))) (entryNamed (now (p .entry)) (entriesOf (now (p .entry)) (now (starts .entry))) at m)) size) ⌝ }
+{
+    let stamp = (1 + number % 255) as u8;
+    let mut m: usize = 0;
+    while m < size {
+        let named = naming::named_at(p, starts, heads, next, wire::pair(p, from + 2 * m));
+        let tag = reference_rules::tag_at(p, starts, named);
+        let place = tag % 1024;
+        if (tag == 0) | (seen[place] == stamp) {
+            return false;
+        }
+        seen[place] = stamp;
+        m += 1;
+    }
+    true
+}
+
+// The list of entries of a device element. A long one would soon meet its own stamps.
+fn is_clear_entries(
+    p: &[u8],
+    starts: &[u16],
+    heads: &[u16],
+    next: &[u16],
+    at: u16,
+    size: usize,
+    number: u16,
+    seen: &mut [u8],
+) -> bool
+    requires { ⌜ Names (now p) (now starts) (now heads) (now next) × (1024 ≤ length (now seen)) × (size ≤ 32768) ⌝ }
+    ensures { λ r. ⌜ (r ≡ true → Apart (λ (m : ℕ). tagOf (now (p .entry)) (entriesOf (now (p .entry)) (now (starts .entry))) (entryNamed (now (p .entry)) (entriesOf (now (p .entry)) (now (starts .entry))) at m)) size) ⌝ }
+{
+    if 64 < size {
+        return reference_rules::are_apart(p, starts, heads, next, at, size);
+    }
+    let from = views::entries_from(p, at);
+    if p.len() < from + 2 * size {
+        return false;
+    }
+    is_clear_list(p, starts, heads, next, at, from, size, number, seen)
+}
+
+// A device element by its fields and its parent's kind, unless rule 1, 2, 8 or 9 has found something.
+pub(crate) fn is_clear_element(
+    p: &[u8],
+    starts: &[u16],
+    heads: &[u16],
+    next: &[u16],
+    at: u16,
+    e: DeviceElement,
+    kind: u16,
+    found: bool,
+    number: u16,
+    seen: &mut [u8],
+) -> bool
+    requires { ⌜ Names (now p) (now starts) (now heads) (now next) × (1024 ≤ length (now seen)) × (e .entries ≤ 32768) ⌝ }
+    ensures { λ r. ⌜ (r ≡ true → (found ≡ false) × AllClear (fieldRows (now (p .entry)) e) × (isParent kind ≡ true) × Apart (λ (m : ℕ). tagOf (now (p .entry)) (entriesOf (now (p .entry)) (now (starts .entry))) (entryNamed (now (p .entry)) (entriesOf (now (p .entry)) (now (starts .entry))) at m)) (e .entries)) ⌝ }
+{
+    if found {
+        return false;
+    }
+    let size = e.entries as usize;
+    let sound = text::is_sound_in(p, e.designator.from, e.designator.to);
+    if !((reference_rules::is_parent(kind) & field_rules::is_fit_element(e)) & sound) {
+        return false;
+    }
+    is_clear_entries(p, starts, heads, next, at, size, number, seen)
+}

@@ -1,0 +1,2 @@
+-- What the contracts of `reference_rules` cite.
+pub mod Lists
