@@ -123,30 +123,38 @@ element-clear p es i at e starts-at is own parent again endless apart =
 
 -- ---- tags one after the other, and the places where they leave the record's number
 
+pub apart-none : (tag : ℕ → ℕ) → Apart tag 0
+apart-none tag = record { some = λ m l e. omega (arith, l); apart = λ j m b l e. omega (arith, l) }
+
+-- one tag more, which none before it is
+pub apart-more : (tag : ℕ → ℕ) (m : ℕ) → Apart tag m → (tag m ≡ 0 → ⊥) → ((j : ℕ) → j < m → tag j ≡ tag m → ⊥) → Apart tag (m + 1)
+apart-more tag m before some new =
+    record {
+      some = below-more _ _ (before .some) some;
+      apart = λ (j k : ℕ) (b : j < k) (l : k < m + 1). ⊎-elim (λ (s : k ≡ m) (e : tag j ≡ tag k). new j (omega arith) (e ∙ ap tag s)) (λ (s : k < m). before .apart j k b s) (eq-or-lt-of-le (omega arith));
+    }
+
 pub record Placed (place tag : ℕ → ℕ) (number m : ℕ) (seen : List ℕ) : Type 0 where
   pub apart : Apart tag m
   pub met : (j : ℕ) → j < m → getD seen (place (tag j)) 0 ≡ number
 
 pub placed-none : (place tag : ℕ → ℕ) (number : ℕ) (seen : List ℕ) → Placed place tag number 0 seen
 placed-none place tag number seen =
-    record { apart = record { some = λ m l e. omega (arith, l); apart = λ j m b l e. omega (arith, l) }; met = λ j l. absurd (omega (arith, l)) }
+    record { apart = apart-none tag; met = λ j l. absurd (omega (arith, l)) }
 
 -- a tag whose place is free is a new one
 module _ (place tag : ℕ → ℕ) (number m : ℕ) (seen : List ℕ) (placed : Placed place tag number m seen) where
   pub placed-more : (x : ℕ) → x ≡ tag m → place x < length seen → (x ≡ 0 → ⊥) → (getD seen (place x) 0 ≡ number → ⊥) → Placed place tag number (m + 1) (set seen (place x) number)
   placed-more x is inside some free =
       record {
-        apart = record {
-          some = below-more _ _ (placed .apart .some) (λ (e : tag m ≡ 0). some (is ∙ e));
-          apart = λ (j k : ℕ) (b : j < k) (l : k < m + 1). ⊎-elim (λ (s : k ≡ m). new j k b s) (λ (s : k < m). placed .apart .apart j k b s) (eq-or-lt-of-le (omega arith));
-        };
+        apart = apart-more tag m (placed .apart) (λ (e : tag m ≡ 0). some (is ∙ e)) new;
         met = λ (j : ℕ) (l : j < m + 1). ⊎-elim (λ (s : j ≡ m). here j s) (λ (s : j < m). there j s (ℕ-discrete (place (tag j)) (place x))) (eq-or-lt-of-le (omega arith));
       }
     where
-      new : (j k : ℕ) → j < k → k ≡ m → tag j ≡ tag k → ⊥
-      new j k b s e =
-          let same : tag j ≡ x = e ∙ ap tag s ∙ sym is in
-          free (sym (ap (λ (t : ℕ). getD seen (place t) 0) same) ∙ placed .met j (omega arith))
+      new : (j : ℕ) → j < m → tag j ≡ tag m → ⊥
+      new j b e =
+          let same : tag j ≡ x = e ∙ sym is in
+          free (sym (ap (λ (t : ℕ). getD seen (place t) 0) same) ∙ placed .met j b)
 
       here : (j : ℕ) → j ≡ m → getD (set seen (place x) number) (place (tag j)) 0 ≡ number
       here j s =

@@ -1,14 +1,14 @@
 // Judging a command to the device: one error byte over an accepted pool.
 use pool::Outcome;
 ghost use mathlib.Core.Path.{_≡_};
-ghost use mathlib.Core.Bool.{cond};
+ghost use mathlib.Core.Bool.{true, cond};
 ghost use Prim.Native.Nat.{_*_, _≤_};
 ghost use lib.Dec.{eqb};
 ghost use lib.ListN.{length};
 ghost use Rattle.views.specs.Fields.{elementOf};
 ghost use Rattle.pool.specs.Walk.{entriesOf, Divided, Reaches, Listed};
 ghost use Rattle.naming.specs.Lists.{Blank};
-ghost use Rattle.naming.specs.Chained.{Names};
+ghost use Rattle.naming.specs.Chained.{Names, Owned};
 ghost use Rattle.judging.specs.Judging.{elementFor, objectFor, propertiesIn, triggersIn, lacksSetting, lacksTrigger, lacksInterval, objectError, errorOf, judgeNumber, judgeError};
 ghost use Rattle.judging.specs.One.{AcceptedNamesOne};
 ghost use Rattle.judging.specs.Causes.{ErrorIsFirstCause};
@@ -179,6 +179,7 @@ fn judge_named(
     starts: &[u16],
     heads: &[u16],
     next: &[u16],
+    owned: bool,
     again: &mut [u8],
     endless: &mut [u8],
     command: u32,
@@ -186,11 +187,11 @@ fn judge_named(
     ddi: u16,
     value: i32,
 ) -> Judgement
-    requires { ⌜ Names (now p) (now starts) (now heads) (now next) × Blank (now again) × Blank (now endless) × (length (now starts) ≤ 8 * length (now again)) × (length (now starts) ≤ 8 * length (now endless)) ⌝ }
+    requires { ⌜ Names (now p) (now starts) (now heads) (now next) × Blank (now again) × Blank (now endless) × (length (now starts) ≤ 8 * length (now again)) × (length (now starts) ≤ 8 * length (now endless)) × (owned ≡ true → Owned (entriesOf (now p) (now starts))) ⌝ }
     ensures { λ r. ⌜ JudgedAmong (now (p .entry)) (entriesOf (now (p .entry)) (now (starts .entry))) command element ddi value r ⌝ }
 {
     let mut first = [0u16; 3];
-    if pool_breaches::put_all(p, starts, heads, next, again, endless, &mut first) != 0 {
+    if pool_breaches::put_all(p, starts, heads, next, owned, again, endless, &mut first) != 0 {
         return Judgement {
             number: 24,
             error: 0,
@@ -216,7 +217,7 @@ fn judge_short(
 {
     let mut heads = [0u16; 512];
     let mut next = [0u16; 1024];
-    naming::name_ids(p, starts, &mut heads, &mut next);
+    let owned = naming::name_ids(p, starts, &mut heads, &mut next);
     let mut again = [0u8; 128];
     let mut endless = [0u8; 128];
     judge_named(
@@ -224,6 +225,7 @@ fn judge_short(
         starts,
         &heads,
         &next,
+        owned,
         &mut again,
         &mut endless,
         command,
@@ -246,7 +248,7 @@ fn judge_long(
 {
     let mut heads = [0u16; 8192];
     let mut next = [0u16; 5462];
-    naming::name_ids(p, starts, &mut heads, &mut next);
+    let owned = naming::name_ids(p, starts, &mut heads, &mut next);
     let mut again = [0u8; 684];
     let mut endless = [0u8; 684];
     judge_named(
@@ -254,6 +256,7 @@ fn judge_long(
         starts,
         &heads,
         &next,
+        owned,
         &mut again,
         &mut endless,
         command,

@@ -234,5 +234,13 @@ module _ (key : ℕ → ℕ) (n : ℕ) (heads next : List ℕ) (c : Chained key 
   pub entered-again : (f ≡ 0 → ⊥) → Chained key (n + 1) heads (set next (n + 1) 65535)
   entered-again h = rw (add-one n) (chained-shut key n heads next c (omega arith) (λ (z : firstOf key (key n) n ≡ 0). h (same-first ∙ z)))
 
+  pub opens-shut : (f ≡ 0 → ⊥) → false ≡ opens key n
+  unfolding opens
+  opens-shut h = sym (ne-eqb (firstOf key (key n) n) 0 (λ (z : firstOf key (key n) n ≡ 0). h (same-first ∙ z)))
+
+  pub opens-new : f ≡ 0 → true ≡ opens key n
+  unfolding opens
+  opens-new z = sym (eq-eqb (firstOf key (key n) n) 0 (sym same-first ∙ z))
+
   pub entered-first : f ≡ 0 → Chained key (n + 1) (set heads (slot (length heads) k) (n + 1)) (set next (n + 1) (getD heads (slot (length heads) k) 0))
   entered-first z = rw (add-one n, is) (chained-open key n heads next c (omega arith) (sym same-first ∙ z))

@@ -6,4 +6,5 @@ pub mod Looking
 pub mod Starts
 pub mod Chained
 pub mod Names
+pub mod Owned
 pub mod Parents

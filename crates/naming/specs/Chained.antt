@@ -2,12 +2,14 @@
 -- these. Definitions only.
 use Prim.Native.Nat.{ℕ, zero, suc, _-_, _≤_, _<_}
 use mathlib.Core.Path.{_≡_}
-use mathlib.Core.Bool.{Bool, cond, _&&_}
+use mathlib.Core.Bool.{Bool, true, cond, _&&_}
 use mathlib.Core.List.{List}
 use lib.Bits.{bitAnd}
 use lib.Dec.{eqb}
 use lib.ListN.{length, getD}
 use Rattle.pool.specs.Walk.{Divided}
+use Rattle.pool.specs.Reading.{Entry}
+use Rattle.naming.specs.Records.{idAt, kindAt}
 use Rattle.naming.specs.Naming.{firstOf}
 use Rattle.naming.specs.Lists.{idIn}
 
@@ -44,3 +46,11 @@ pub record Linked (p starts heads next : List ℕ) : Type 0 where
 -- the same, shut: what follows from it is in the laws
 unfoldable pub Names : List ℕ → List ℕ → List ℕ → List ℕ → Type 0
 Names p starts heads next = Linked p starts heads next
+
+-- no record has the ID of an earlier one
+abbrev pub Distinct : List ℕ → List ℕ → Type 0
+Distinct p starts = (i : ℕ) → i < length starts - 1 → opens (idIn p starts) i ≡ true
+
+-- every record but a device has an ID of its own: it is neither 0 nor 65535, and the record is the first that has it
+abbrev pub Owned : List Entry → Type 0
+Owned es = (i : ℕ) → i < length es → (kindAt es i ≡ 1 → ⊥) → (idAt es i ≡ 0 → ⊥) × (idAt es i ≡ 65535 → ⊥) × (firstOf (idAt es) (idAt es i) (length es) ≡ suc i)

@@ -2,7 +2,7 @@
 // slot, so that the links fall and every walk along them ends. The lists are lent: how many heads there are is the caller's
 // choice, and no ID is too large for them.
 ghost use mathlib.Core.Path.{_≡_};
-ghost use mathlib.Core.Bool.{not};
+ghost use mathlib.Core.Bool.{true, not};
 ghost use Prim.Native.Nat.{suc, _+_, _≤_, _<_};
 ghost use lib.Dec.{eqb};
 ghost use lib.ListN.{length};
@@ -10,7 +10,7 @@ ghost use Rattle.pool.specs.Walk.{entriesOf, Divided};
 ghost use Rattle.naming.specs.Records.{idAt, kindAt};
 ghost use Rattle.naming.specs.Naming.{firstOf, named, isData, kindOf, parentOf};
 ghost use Rattle.naming.specs.Lists.{idIn, Blank};
-ghost use Rattle.naming.specs.Chained.{slot, Chained, Names};
+ghost use Rattle.naming.specs.Chained.{slot, opens, Chained, Names, Distinct, Owned};
 
 // The slot of an ID among so many heads.
 fn slot_of(id: u16, heads: usize) -> usize
@@ -45,34 +45,65 @@ fn find(p: &[u8], starts: &[u16], count: usize, heads: &[u16], next: &[u16], id:
     0
 }
 
-// Links record i to the last earlier one of its slot, or marks it where an earlier one has its ID.
-fn enter(p: &[u8], starts: &[u16], i: usize, heads: &mut [u16], next: &mut [u16])
+// Links record i to the last earlier one of its slot, or marks it where an earlier one has its ID. Tells whether none has.
+fn enter(p: &[u8], starts: &[u16], i: usize, heads: &mut [u16], next: &mut [u16]) -> bool
     requires { ⌜ Divided (now p) (now starts) × (i + 1 < length (now starts)) × (length (now starts) ≤ length (now next)) × Chained (idIn (now p) (now starts)) i (now heads) (now next) ⌝ }
-    ensures { λ _. ⌜ Chained (idIn (now (p .entry)) (now (starts .entry))) (i + 1) (now (heads .exit)) (now (next .exit)) ⌝ }
+    ensures { λ r. ⌜ (r ≡ opens (idIn (now (p .entry)) (now (starts .entry))) i) × Chained (idIn (now (p .entry)) (now (starts .entry))) (i + 1) (now (heads .exit)) (now (next .exit)) ⌝ }
 {
     let id = id_at(p, starts, i);
     let first = find(p, starts, i, heads, next, id);
     let at = i + 1;
     if first != 0 {
         next[at] = 65535;
-        return;
+        return false;
     }
     let head = slot_of(id, heads.len());
     next[at] = heads[head];
     heads[head] = at as u16;
+    true
 }
 
-// Lists the records by ID.
-pub fn name_ids(p: &[u8], starts: &[u16], heads: &mut [u16], next: &mut [u16])
+// Lists the records by ID, and tells whether all IDs are distinct.
+fn link_ids(p: &[u8], starts: &[u16], heads: &mut [u16], next: &mut [u16]) -> bool
     requires { ⌜ Divided (now p) (now starts) × (length (now starts) ≤ length (now next)) × (0 < length (now heads)) × Blank (now heads) ⌝ }
-    ensures { λ _. ⌜ Names (now (p .entry)) (now (starts .entry)) (now (heads .exit)) (now (next .exit)) ⌝ }
+    ensures { λ r. ⌜ Names (now (p .entry)) (now (starts .entry)) (now (heads .exit)) (now (next .exit)) × (r ≡ true → Distinct (now (p .entry)) (now (starts .entry))) ⌝ }
 {
     let count = starts.len() - 1;
+    let mut distinct = true;
     let mut i: usize = 0;
     while i < count {
-        enter(p, starts, i, heads, next);
+        if !enter(p, starts, i, heads, next) {
+            distinct = false;
+        }
         i += 1;
     }
+    distinct
+}
+
+// Whether every record but a device has an ID of its own (rules 1 and 2): all IDs are distinct, none is 65535, and a device has 0.
+fn are_owned(p: &[u8], starts: &[u16], heads: &[u16], next: &[u16], distinct: bool) -> bool
+    requires { ⌜ Names (now p) (now starts) (now heads) (now next) × (distinct ≡ true → Distinct (now p) (now starts)) ⌝ }
+    ensures { λ r. ⌜ (r ≡ true → Owned (entriesOf (now (p .entry)) (now (starts .entry)))) ⌝ }
+{
+    if !distinct {
+        return false;
+    }
+    let count = starts.len() - 1;
+    if find(p, starts, count, heads, next, 65535) != 0 {
+        return false;
+    }
+    let first = find(p, starts, count, heads, next, 0);
+    kind_at(p, starts, first) == 1
+}
+
+// Lists the records by ID. Tells whether every record but a device has an ID of its own, so that nobody has to look at each; if not,
+// one of them may still have.
+pub fn name_ids(p: &[u8], starts: &[u16], heads: &mut [u16], next: &mut [u16]) -> bool
+    requires { ⌜ Divided (now p) (now starts) × (length (now starts) ≤ length (now next)) × (0 < length (now heads)) × Blank (now heads) ⌝ }
+    ensures { λ r. ⌜ Names (now (p .entry)) (now (starts .entry)) (now (heads .exit)) (now (next .exit)) × (r ≡ true → Owned (entriesOf (now (p .entry)) (now (starts .entry)))) ⌝ }
+{
+    let distinct = link_ids(p, starts, heads, next);
+    are_owned(p, starts, heads, next, distinct)
 }
 
 // The number of the record that an ID names; 0 for none.

@@ -13,7 +13,7 @@ ghost use Rattle.views.specs.Fields.{elementOf};
 ghost use Rattle.naming.specs.Records.{startAt, kindAt};
 ghost use Rattle.naming.specs.Naming.{firstOf, named, kindOf, parentOf, climb};
 ghost use Rattle.naming.specs.Lists.{Blank};
-ghost use Rattle.naming.specs.Chained.{Names};
+ghost use Rattle.naming.specs.Chained.{Names, Owned};
 ghost use Rattle.rules.specs.Table.{repeats, elementKey, breachesIn};
 ghost use Rattle.pool_breaches.specs.Passing.{Completes, Marked, Sighted, Added};
 
@@ -208,6 +208,7 @@ fn pass(
     starts: &[u16],
     heads: &[u16],
     next: &[u16],
+    owned: bool,
     device: u16,
     i: usize,
     passed: Passed,
@@ -217,7 +218,7 @@ fn pass(
     seen: &mut [u8],
     faults: &mut [u16],
 ) -> Passed
-    requires { ⌜ Names (now p) (now starts) (now heads) (now next) × (i + 1 < length (now starts)) × (device ≡ firstOf (kindAt (entriesOf (now p) (now starts))) 1 (length (entriesOf (now p) (now starts)))) × Sighted (now p) (now starts) i (passed .full) (now numbers) (now again) (now endless) × (1024 ≤ length (now seen)) × (passed .n < 2 ^ 37) ⌝ }
+    requires { ⌜ Names (now p) (now starts) (now heads) (now next) × (i + 1 < length (now starts)) × (device ≡ firstOf (kindAt (entriesOf (now p) (now starts))) 1 (length (entriesOf (now p) (now starts)))) × Sighted (now p) (now starts) i (passed .full) (now numbers) (now again) (now endless) × (1024 ≤ length (now seen)) × (passed .n < 2 ^ 37) × (owned ≡ true → Owned (entriesOf (now p) (now starts))) ⌝ }
     ensures { λ r. ⌜ Added (now (p .entry)) (now (starts .entry)) i (now (faults .entry)) (passed .n) (now (faults .exit)) (r .n) × Sighted (now (p .entry)) (now (starts .entry)) (i + 1) (r .full) (now (numbers .exit)) (now (again .exit)) (now (endless .exit)) ⌝ }
 {
     let kind = naming::record_kind(p, starts, i);
@@ -237,7 +238,18 @@ fn pass(
         );
     }
     let full = passed.full;
-    let n = record_breaches::put_other(p, starts, heads, next, device, i, kind, faults, passed.n);
+    let n = record_breaches::put_other(
+        p,
+        starts,
+        heads,
+        next,
+        owned,
+        device,
+        i,
+        kind,
+        faults,
+        passed.n,
+    );
     Passed { n, full }
 }
 
@@ -247,6 +259,7 @@ fn put_records(
     starts: &[u16],
     heads: &[u16],
     next: &[u16],
+    owned: bool,
     device: u16,
     numbers: &mut [u8],
     again: &mut [u8],
@@ -255,7 +268,7 @@ fn put_records(
     faults: &mut [u16],
     start: usize,
 ) -> usize
-    requires { ⌜ Names (now p) (now starts) (now heads) (now next) × (device ≡ firstOf (kindAt (entriesOf (now p) (now starts))) 1 (length (entriesOf (now p) (now starts)))) × Sighted (now p) (now starts) 0 false (now numbers) (now again) (now endless) × (1024 ≤ length (now seen)) × (start ≤ 2) ⌝ }
+    requires { ⌜ Names (now p) (now starts) (now heads) (now next) × (device ≡ firstOf (kindAt (entriesOf (now p) (now starts))) 1 (length (entriesOf (now p) (now starts)))) × Sighted (now p) (now starts) 0 false (now numbers) (now again) (now endless) × (1024 ≤ length (now seen)) × (start ≤ 2) × (owned ≡ true → Owned (entriesOf (now p) (now starts))) ⌝ }
     ensures { λ r. ⌜ Completes (now (p .entry)) (entriesOf (now (p .entry)) (now (starts .entry))) (now (faults .entry)) start (now (faults .exit)) r ⌝ }
 {
     let count = starts.len() - 1;
@@ -270,6 +283,7 @@ fn put_records(
             starts,
             heads,
             next,
+            owned,
             device,
             i,
             passed,
@@ -284,17 +298,19 @@ fn put_records(
     passed.n
 }
 
-// The faults of a pool whose IDs have been listed, with marks for as many records as it has.
+// The faults of a pool whose IDs have been listed, with marks for as many records as it has. It is given whether all records but devices
+// are known to have IDs of their own.
 pub fn put_all(
     p: &[u8],
     starts: &[u16],
     heads: &[u16],
     next: &[u16],
+    owned: bool,
     again: &mut [u8],
     endless: &mut [u8],
     faults: &mut [u16],
 ) -> usize
-    requires { ⌜ Names (now p) (now starts) (now heads) (now next) × Blank (now again) × Blank (now endless) × (length (now starts) ≤ 8 * length (now again)) × (length (now starts) ≤ 8 * length (now endless)) ⌝ }
+    requires { ⌜ Names (now p) (now starts) (now heads) (now next) × Blank (now again) × Blank (now endless) × (length (now starts) ≤ 8 * length (now again)) × (length (now starts) ≤ 8 * length (now endless)) × (owned ≡ true → Owned (entriesOf (now p) (now starts))) ⌝ }
     ensures { λ r. ⌜ Emits (now (faults .entry)) 0 (breachesIn (now (p .entry)) (entriesOf (now (p .entry)) (now (starts .entry)))) (now (faults .exit)) r ⌝ }
 {
     let device = field_rules::whole::first_device(p, starts);
@@ -306,6 +322,7 @@ pub fn put_all(
         starts,
         heads,
         next,
+        owned,
         device,
         &mut numbers,
         again,
@@ -323,10 +340,19 @@ fn count_short(p: &[u8], starts: &[u16], faults: &mut [u16]) -> usize
 {
     let mut heads = [0u16; 512];
     let mut next = [0u16; 1024];
-    naming::name_ids(p, starts, &mut heads, &mut next);
+    let owned = naming::name_ids(p, starts, &mut heads, &mut next);
     let mut again = [0u8; 128];
     let mut endless = [0u8; 128];
-    put_all(p, starts, &heads, &next, &mut again, &mut endless, faults)
+    put_all(
+        p,
+        starts,
+        &heads,
+        &next,
+        owned,
+        &mut again,
+        &mut endless,
+        faults,
+    )
 }
 
 // Lists for every pool.
@@ -336,10 +362,19 @@ fn count_long(p: &[u8], starts: &[u16], faults: &mut [u16]) -> usize
 {
     let mut heads = [0u16; 8192];
     let mut next = [0u16; 5462];
-    naming::name_ids(p, starts, &mut heads, &mut next);
+    let owned = naming::name_ids(p, starts, &mut heads, &mut next);
     let mut again = [0u8; 684];
     let mut endless = [0u8; 684];
-    put_all(p, starts, &heads, &next, &mut again, &mut endless, faults)
+    put_all(
+        p,
+        starts,
+        &heads,
+        &next,
+        owned,
+        &mut again,
+        &mut endless,
+        faults,
+    )
 }
 
 // Counts and puts the faults of a pool that has been listed, with lists of the pool's size: clearing long ones would take most of

@@ -6,7 +6,7 @@ mod other;
 
 use records::DeviceElement;
 ghost use mathlib.Core.Path.{_≡_};
-ghost use mathlib.Core.Bool.{not};
+ghost use mathlib.Core.Bool.{true, not};
 ghost use Prim.Native.Nat.{suc, _+_, _≤_, _<_, _^_};
 ghost use lib.Dec.{eqb};
 ghost use lib.ListN.{length};
@@ -15,7 +15,7 @@ ghost use Rattle.faults.specs.Emission.{Puts};
 ghost use Rattle.pool.specs.Walk.{entriesOf};
 ghost use Rattle.naming.specs.Records.{startAt, kindAt};
 ghost use Rattle.naming.specs.Naming.{firstOf, named, kindOf, parentOf, climb};
-ghost use Rattle.naming.specs.Chained.{Names};
+ghost use Rattle.naming.specs.Chained.{Names, Owned};
 ghost use Rattle.rules.specs.Table.{repeats, elementKey, recordRows};
 
 // Every fault of record i, which is no device element. The first device's number is given, 0 where there is none.
@@ -24,16 +24,17 @@ pub fn put_other(
     starts: &[u16],
     heads: &[u16],
     next: &[u16],
+    owned: bool,
     device: u16,
     i: usize,
     kind: u16,
     faults: &mut [u16],
     n: usize,
 ) -> usize
-    requires { ⌜ Names (now p) (now starts) (now heads) (now next) × (i + 1 < length (now starts)) × (device ≡ firstOf (kindAt (entriesOf (now p) (now starts))) 1 (length (entriesOf (now p) (now starts)))) × (kind ≡ kindAt (entriesOf (now p) (now starts)) i) × (kind ≡ 2 → ⊥) × (n < 2 ^ 37) ⌝ }
+    requires { ⌜ Names (now p) (now starts) (now heads) (now next) × (owned ≡ true → Owned (entriesOf (now p) (now starts))) × (i + 1 < length (now starts)) × (device ≡ firstOf (kindAt (entriesOf (now p) (now starts))) 1 (length (entriesOf (now p) (now starts)))) × (kind ≡ kindAt (entriesOf (now p) (now starts)) i) × (kind ≡ 2 → ⊥) × (n < 2 ^ 37) ⌝ }
     ensures { λ r. ⌜ Puts (i + 1) (recordRows (now (p .entry)) (entriesOf (now (p .entry)) (now (starts .entry))) i) (now (faults .entry)) n (now (faults .exit)) r × (r ≤ n + 98313) ⌝ }
 {
-    if look::is_clear_other(p, starts, heads, next, i, kind) {
+    if look::is_clear_other(p, starts, heads, next, owned, i, kind) {
         return n;
     }
     let bad = field_rules::is_bad_id(kind, records::view::id(p, starts[i]));
@@ -77,8 +78,24 @@ pub fn put_element(
     let number = (i + 1) as u16;
     let bad = field_rules::is_bad_id(2, records::view::id(p, at));
     let twice = naming::repeats_id(p, starts, heads, next, i);
-    let found = (bad | twice) | (again | endless);
-    if look::is_clear_element(p, starts, heads, next, at, e, kind, found, number, seen) {
+    if (bad | twice) | (again | endless) {
+        return element::put_faults(
+            p,
+            starts,
+            heads,
+            next,
+            i,
+            e,
+            parent,
+            bad,
+            twice,
+            again,
+            endless,
+            faults,
+            n,
+        );
+    }
+    if look::is_clear_element(p, starts, heads, next, at, e, kind, number, seen) {
         return n;
     }
     element::put_faults(

@@ -11,7 +11,7 @@ ghost use Rattle.faults.specs.Rows.{AllClear};
 ghost use Rattle.pool.specs.Walk.{entriesOf};
 ghost use Rattle.naming.specs.Records.{idAt, kindAt};
 ghost use Rattle.naming.specs.Naming.{tagOf};
-ghost use Rattle.naming.specs.Chained.{Names};
+ghost use Rattle.naming.specs.Chained.{Names, Owned};
 ghost use Rattle.rules.specs.Table.{badOwn, repeats, isParent, entryNamed, fieldRows, presentedRows, recordRows};
 ghost use Rattle.field_rules.specs.Clean.{Apart};
 
@@ -27,18 +27,37 @@ fn is_presented(p: &[u8], starts: &[u16], heads: &[u16], next: &[u16], id: u16) 
     naming::kind_at(p, starts, named) == 5
 }
 
-// Whether rules 1 and 2 find nothing in record i, as one of a kind.
-fn is_own(p: &[u8], starts: &[u16], heads: &[u16], next: &[u16], i: usize, kind: u16) -> bool
-    requires { ⌜ Names (now p) (now starts) (now heads) (now next) × (i + 1 < length (now starts)) ⌝ }
-    ensures { λ r. ⌜ r ≡ not (badOwn kind (idAt (entriesOf (now (p .entry)) (now (starts .entry))) i) || repeats (idAt (entriesOf (now (p .entry)) (now (starts .entry)))) (idAt (entriesOf (now (p .entry)) (now (starts .entry))) i) i (length (entriesOf (now (p .entry)) (now (starts .entry))))) ⌝ }
+// Whether rules 1 and 2 find nothing in record i, as one of a kind that is no device. Where all records but devices are known to have
+// IDs of their own, it is not looked at.
+fn is_own(
+    p: &[u8],
+    starts: &[u16],
+    heads: &[u16],
+    next: &[u16],
+    owned: bool,
+    i: usize,
+    kind: u16,
+) -> bool
+    requires { ⌜ Names (now p) (now starts) (now heads) (now next) × (owned ≡ true → Owned (entriesOf (now p) (now starts))) × (i + 1 < length (now starts)) × (kind ≡ 1 → ⊥) ⌝ }
+    ensures { λ r. ⌜ (r ≡ true → kindAt (entriesOf (now (p .entry)) (now (starts .entry))) i ≡ kind → not (badOwn kind (idAt (entriesOf (now (p .entry)) (now (starts .entry))) i) || repeats (idAt (entriesOf (now (p .entry)) (now (starts .entry)))) (idAt (entriesOf (now (p .entry)) (now (starts .entry))) i) i (length (entriesOf (now (p .entry)) (now (starts .entry))))) ≡ true) ⌝ }
 {
+    if owned {
+        return true;
+    }
     let bad = field_rules::is_bad_id(kind, records::view::id(p, starts[i]));
     !(bad | naming::repeats_id(p, starts, heads, next, i))
 }
 
 // Process data. The look at a property differs in where the text stands and has no rule 5; both are quicker for standing apart.
-fn is_clear_data(p: &[u8], starts: &[u16], heads: &[u16], next: &[u16], i: usize) -> bool
-    requires { ⌜ Names (now p) (now starts) (now heads) (now next) × (i + 1 < length (now starts)) ⌝ }
+fn is_clear_data(
+    p: &[u8],
+    starts: &[u16],
+    heads: &[u16],
+    next: &[u16],
+    owned: bool,
+    i: usize,
+) -> bool
+    requires { ⌜ Names (now p) (now starts) (now heads) (now next) × (owned ≡ true → Owned (entriesOf (now p) (now starts))) × (i + 1 < length (now starts)) ⌝ }
     ensures { λ r. ⌜ (r ≡ true → kindAt (entriesOf (now (p .entry)) (now (starts .entry))) i ≡ 3 → AllClear (recordRows (now (p .entry)) (entriesOf (now (p .entry)) (now (starts .entry))) i)) ⌝ }
 {
     let at = starts[i];
@@ -50,16 +69,27 @@ fn is_clear_data(p: &[u8], starts: &[u16], heads: &[u16], next: &[u16], i: usize
     if p.len() < to + 2 {
         return false;
     }
-    let own = is_own(p, starts, heads, next, i, 3);
-    let fit = field_rules::is_fit_data(views::process_data(p, at));
-    if !((own & fit) & text::is_sound_in(p, text_at + 1, to)) {
+    if !is_own(p, starts, heads, next, owned, i, 3) {
+        return false;
+    }
+    if !field_rules::is_fit_data(views::process_data(p, at)) {
+        return false;
+    }
+    if !text::is_sound_in(p, text_at + 1, to) {
         return false;
     }
     is_presented(p, starts, heads, next, wire::pair(p, to))
 }
 
-fn is_clear_property(p: &[u8], starts: &[u16], heads: &[u16], next: &[u16], i: usize) -> bool
-    requires { ⌜ Names (now p) (now starts) (now heads) (now next) × (i + 1 < length (now starts)) ⌝ }
+fn is_clear_property(
+    p: &[u8],
+    starts: &[u16],
+    heads: &[u16],
+    next: &[u16],
+    owned: bool,
+    i: usize,
+) -> bool
+    requires { ⌜ Names (now p) (now starts) (now heads) (now next) × (owned ≡ true → Owned (entriesOf (now p) (now starts))) × (i + 1 < length (now starts)) ⌝ }
     ensures { λ r. ⌜ (r ≡ true → kindAt (entriesOf (now (p .entry)) (now (starts .entry))) i ≡ 4 → AllClear (recordRows (now (p .entry)) (entriesOf (now (p .entry)) (now (starts .entry))) i)) ⌝ }
 {
     let at = starts[i];
@@ -71,22 +101,31 @@ fn is_clear_property(p: &[u8], starts: &[u16], heads: &[u16], next: &[u16], i: u
     if p.len() < to + 2 {
         return false;
     }
-    let own = is_own(p, starts, heads, next, i, 4);
-    if !(own & text::is_sound_in(p, text_at + 1, to)) {
+    if !is_own(p, starts, heads, next, owned, i, 4) {
+        return false;
+    }
+    if !text::is_sound_in(p, text_at + 1, to) {
         return false;
     }
     is_presented(p, starts, heads, next, wire::pair(p, to))
 }
 
-fn is_clear_value(p: &[u8], starts: &[u16], heads: &[u16], next: &[u16], i: usize) -> bool
-    requires { ⌜ Names (now p) (now starts) (now heads) (now next) × (i + 1 < length (now starts)) ⌝ }
+fn is_clear_value(
+    p: &[u8],
+    starts: &[u16],
+    heads: &[u16],
+    next: &[u16],
+    owned: bool,
+    i: usize,
+) -> bool
+    requires { ⌜ Names (now p) (now starts) (now heads) (now next) × (owned ≡ true → Owned (entriesOf (now p) (now starts))) × (i + 1 < length (now starts)) ⌝ }
     ensures { λ r. ⌜ (r ≡ true → kindAt (entriesOf (now (p .entry)) (now (starts .entry))) i ≡ 5 → AllClear (recordRows (now (p .entry)) (entriesOf (now (p .entry)) (now (starts .entry))) i)) ⌝ }
 {
     let at = starts[i];
     if p.len() < at as usize + 15 {
         return false;
     }
-    let own = is_own(p, starts, heads, next, i, 5);
+    let own = is_own(p, starts, heads, next, owned, i, 5);
     let v = views::value_presentation(p, at);
     (own & field_rules::is_fit_value(v)) & text::is_sound_in(p, v.unit.from, v.unit.to)
 }
@@ -97,20 +136,21 @@ pub(crate) fn is_clear_other(
     starts: &[u16],
     heads: &[u16],
     next: &[u16],
+    owned: bool,
     i: usize,
     kind: u16,
 ) -> bool
-    requires { ⌜ Names (now p) (now starts) (now heads) (now next) × (i + 1 < length (now starts)) × (kind ≡ kindAt (entriesOf (now p) (now starts)) i) ⌝ }
+    requires { ⌜ Names (now p) (now starts) (now heads) (now next) × (owned ≡ true → Owned (entriesOf (now p) (now starts))) × (i + 1 < length (now starts)) × (kind ≡ kindAt (entriesOf (now p) (now starts)) i) ⌝ }
     ensures { λ r. ⌜ (r ≡ true → AllClear (recordRows (now (p .entry)) (entriesOf (now (p .entry)) (now (starts .entry))) i)) ⌝ }
 {
     if kind == 3 {
-        return is_clear_data(p, starts, heads, next, i);
+        return is_clear_data(p, starts, heads, next, owned, i);
     }
     if kind == 4 {
-        return is_clear_property(p, starts, heads, next, i);
+        return is_clear_property(p, starts, heads, next, owned, i);
     }
     if kind == 5 {
-        return is_clear_value(p, starts, heads, next, i);
+        return is_clear_value(p, starts, heads, next, owned, i);
     }
     false
 }
@@ -146,7 +186,37 @@ fn is_clear_list(
     true
 }
 
-// The list of entries of a device element. A long one would soon meet its own stamps.
+// The same of a long list, which would soon meet its own stamps: bits under 16,384 remainders, which tell apart all DDIs of the
+// standard and those that makers choose.
+fn is_clear_long(
+    p: &[u8],
+    starts: &[u16],
+    heads: &[u16],
+    next: &[u16],
+    at: u16,
+    from: usize,
+    size: usize,
+    noted: &mut [u8],
+) -> bool
+    requires { ⌜ Names (now p) (now starts) (now heads) (now next) × (2048 ≤ length (now noted)) × (size < 65536) × (from + 2 * size ≤ length (now p)) × ((m : ℕ) → entryOf (now p) at m ≡ numberAt 2 (now p) (from + 2 * m)) ⌝ }
+    ensures { λ r. ⌜ (r ≡ true → Apart (λ (m : ℕ). tagOf (now (p .entry)) (entriesOf (now (p .entry)) (now (starts .entry))) (entryNamed (now (p .entry)) (entriesOf (now (p .entry)) (now (starts .entry))) at m)) size) ⌝ }
+{
+    let mut m: usize = 0;
+    while m < size {
+        let named = naming::named_at(p, starts, heads, next, wire::pair(p, from + 2 * m));
+        let tag = reference_rules::tag_at(p, starts, named);
+        if tag == 0 {
+            return false;
+        }
+        if marks::note(noted, tag % 16384) {
+            return false;
+        }
+        m += 1;
+    }
+    true
+}
+
+// The list of entries of a device element.
 fn is_clear_entries(
     p: &[u8],
     starts: &[u16],
@@ -160,17 +230,18 @@ fn is_clear_entries(
     requires { ⌜ Names (now p) (now starts) (now heads) (now next) × (1024 ≤ length (now seen)) × (size ≤ 32768) ⌝ }
     ensures { λ r. ⌜ (r ≡ true → Apart (λ (m : ℕ). tagOf (now (p .entry)) (entriesOf (now (p .entry)) (now (starts .entry))) (entryNamed (now (p .entry)) (entriesOf (now (p .entry)) (now (starts .entry))) at m)) size) ⌝ }
 {
-    if 64 < size {
-        return reference_rules::are_apart(p, starts, heads, next, at, size);
-    }
     let from = views::entries_from(p, at);
     if p.len() < from + 2 * size {
         return false;
     }
+    if 64 < size {
+        let mut noted = [0u8; 2048];
+        return is_clear_long(p, starts, heads, next, at, from, size, &mut noted);
+    }
     is_clear_list(p, starts, heads, next, at, from, size, number, seen)
 }
 
-// A device element by its fields and its parent's kind, unless rule 1, 2, 8 or 9 has found something.
+// A device element by its fields and its parent's kind.
 pub(crate) fn is_clear_element(
     p: &[u8],
     starts: &[u16],
@@ -179,16 +250,12 @@ pub(crate) fn is_clear_element(
     at: u16,
     e: DeviceElement,
     kind: u16,
-    found: bool,
     number: u16,
     seen: &mut [u8],
 ) -> bool
     requires { ⌜ Names (now p) (now starts) (now heads) (now next) × (1024 ≤ length (now seen)) × (e .entries ≤ 32768) ⌝ }
-    ensures { λ r. ⌜ (r ≡ true → (found ≡ false) × AllClear (fieldRows (now (p .entry)) e) × (isParent kind ≡ true) × Apart (λ (m : ℕ). tagOf (now (p .entry)) (entriesOf (now (p .entry)) (now (starts .entry))) (entryNamed (now (p .entry)) (entriesOf (now (p .entry)) (now (starts .entry))) at m)) (e .entries)) ⌝ }
+    ensures { λ r. ⌜ (r ≡ true → AllClear (fieldRows (now (p .entry)) e) × (isParent kind ≡ true) × Apart (λ (m : ℕ). tagOf (now (p .entry)) (entriesOf (now (p .entry)) (now (starts .entry))) (entryNamed (now (p .entry)) (entriesOf (now (p .entry)) (now (starts .entry))) at m)) (e .entries)) ⌝ }
 {
-    if found {
-        return false;
-    }
     let size = e.entries as usize;
     let sound = text::is_sound_in(p, e.designator.from, e.designator.to);
     if !((reference_rules::is_parent(kind) & field_rules::is_fit_element(e)) & sound) {

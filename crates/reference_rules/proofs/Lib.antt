@@ -5,4 +5,3 @@ pub mod Seen
 pub mod Walking
 pub mod Linked
 pub mod Linking
-pub mod Apart

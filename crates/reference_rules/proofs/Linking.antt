@@ -1,4 +1,4 @@
--- Rule 12's walk along links, entry by entry: the faults put, the lists, and how many entries have a tag. Assumes nothing.
+-- Rule 12's walk along links, entry by entry: the faults put, and the lists. Assumes nothing.
 use mathlib.Core.Path.{_≡_, refl, sym, ap, _∙_}
 use mathlib.Core.Bool.{true}
 use mathlib.Core.Logic.{⊎-elim}
@@ -18,41 +18,30 @@ use Rattle.reference_rules.proofs.Seen.{plain, lone, earlier}
 use Rattle.reference_rules.proofs.Walking.{puts-silent, puts-hit}
 use Rattle.reference_rules.proofs.Linked.{tags, Linked, Walks, standing, linked-start, linked-plain, linked-again, linked-marked, linked-new}
 
-pub record Linking (entry mark : ℕ → ℕ) (h number size : ℕ) (links₀ faults₀ : List ℕ) (count : ℕ) (tops links faults : List ℕ) (n tagged m : ℕ) : Type 0 where
+pub record Linking (entry mark : ℕ → ℕ) (h number size : ℕ) (links₀ faults₀ : List ℕ) (count : ℕ) (tops links faults : List ℕ) (n m : ℕ) : Type 0 where
   pub puts : Puts number (many 12 2 m (doubled (tags entry mark)) ∷ []) faults₀ count faults n
   pub within : m ≤ size
   pub linked : Linked entry mark h m tops links
   pub room : length links ≡ length links₀
-  pub few : tagged ≤ m
-  pub all : tagged ≡ m → (j : ℕ) → j < m → tags entry mark j ≡ 0 → ⊥
 
 module _ (entry mark : ℕ → ℕ) (nothing : mark 0 ≡ 0) (h number size : ℕ) (links₀ faults₀ : List ℕ) (count : ℕ) where
-  pub link-start : (tops : List ℕ) → 0 < h → length tops ≡ h → Blank tops → Blank links₀ → Linking entry mark h number size links₀ faults₀ count tops links₀ faults₀ count 0 0
+  pub link-start : (tops : List ℕ) → 0 < h → length tops ≡ h → Blank tops → Blank links₀ → Linking entry mark h number size links₀ faults₀ count tops links₀ faults₀ count 0
   link-start tops some wide blank new =
       record {
         puts = puts-start;
         within = omega arith;
         linked = linked-start entry mark h tops links₀ some wide blank new;
         room = refl;
-        few = omega arith;
-        all = λ e (j : ℕ) (l : j < 0). absurd (omega arith);
       }
 
-  module _ (tops links faults : List ℕ) (n tagged m : ℕ) (b : m < size) (w : Linking entry mark h number size links₀ faults₀ count tops links faults n tagged m) where
-    -- one entry more that has a tag
-    all-more : (tags entry mark m ≡ 0 → ⊥) → tagged + 1 ≡ m + 1 → (j : ℕ) → j < m + 1 → tags entry mark j ≡ 0 → ⊥
-    all-more t e j l z =
-        ⊎-elim (λ (q : j ≡ m). t (ap (tags entry mark) (sym q) ∙ z)) (λ (q : j < m). w .all (omega arith) j q z) (eq-or-lt-of-le (omega arith))
-
-    pub link-plain : tags entry mark m ≡ 0 → Linking entry mark h number size links₀ faults₀ count tops links faults n tagged (m + 1)
+  module _ (tops links faults : List ℕ) (n m : ℕ) (b : m < size) (w : Linking entry mark h number size links₀ faults₀ count tops links faults n m) where
+    pub link-plain : tags entry mark m ≡ 0 → Linking entry mark h number size links₀ faults₀ count tops links faults n (m + 1)
     link-plain e =
         record {
           puts = puts-silent m (w .puts) (plain (tags entry mark) m e);
           within = omega arith;
           linked = rw (add-one m) (linked-plain entry mark h m tops links (w .linked) e);
           room = w .room;
-          few = omega (arith, w .few);
-          all = λ (q : tagged ≡ m + 1). absurd (omega (arith, w .few));
         }
 
     module _ (x : ℕ) (e : tags entry mark m ≡ x) (t : x ≡ 0 → ⊥) where
@@ -62,21 +51,19 @@ module _ (entry mark : ℕ → ℕ) (nothing : mark 0 ≡ 0) (h number size : �
       -- an earlier entry has its tag
       hit : (j : ℕ) → j < m → tags entry mark j ≡ x → (links′ : List ℕ) → Linked entry mark h (suc m) tops links′ → length links′ ≡ length links
           → (item : ℕ) (faults′ : List ℕ) (n′ : ℕ) → item ≡ 2 + m → Puts number (one 12 item true ∷ []) faults n faults′ n′
-          → Linking entry mark h number size links₀ faults₀ count tops links′ faults′ n′ (tagged + 1) (m + 1)
+          → Linking entry mark h number size links₀ faults₀ count tops links′ faults′ n′ (m + 1)
       hit j l same links′ linked wide item faults′ n′ i puts =
           record {
             puts = puts-hit m item (w .puts) (earlier (tags entry mark) m j has l (same ∙ sym e)) i puts;
             within = omega arith;
             linked = rw (add-one m) linked;
             room = wide ∙ w .room;
-            few = omega (arith, w .few);
-            all = all-more has;
           }
 
       module _ (r : ℕ) (is : r ≡ entry m) where
         -- the record has a link
         pub link-known : (getD links r 0 ≡ 0 → ⊥) → (item : ℕ) (faults′ : List ℕ) (n′ : ℕ) → item ≡ 2 + m → Puts number (one 12 item true ∷ []) faults n faults′ n′
-            → Linking entry mark h number size links₀ faults₀ count tops links faults′ n′ (tagged + 1) (m + 1)
+            → Linking entry mark h number size links₀ faults₀ count tops links faults′ n′ (m + 1)
         link-known known =
             let d = w .linked .met r known in
             let same : tags entry mark (d .0) ≡ x = ap mark (d .2 ∙ is) ∙ e in
@@ -85,7 +72,7 @@ module _ (entry mark : ℕ → ℕ) (nothing : mark 0 ≡ 0) (h number size : �
         -- it has none, and the walk stands at a record that an earlier entry names
         pub link-met : getD links r 0 ≡ 0 → (k v item : ℕ) (faults′ : List ℕ) (n′ : ℕ) → (k ≡ 0 → ⊥) → Walks entry mark h m x k → mark k ≡ x → item ≡ 2 + m
             → Puts number (one 12 item true ∷ []) faults n faults′ n′
-            → Linking entry mark h number size links₀ faults₀ count tops (set links r v) faults′ n′ (tagged + 1) (m + 1)
+            → Linking entry mark h number size links₀ faults₀ count tops (set links r v) faults′ n′ (m + 1)
         link-met unmet k v item faults′ n′ s stands q =
             let d = standing entry mark nothing m h x k s stands in
             let l : d .0 < m = omega (arith, stands .inside, d .1) in
@@ -94,13 +81,11 @@ module _ (entry mark : ℕ → ℕ) (nothing : mark 0 ≡ 0) (h number size : �
 
         -- no earlier entry has the tag
         pub link-new : Without (tags entry mark) x m → r < length links₀
-            → Linking entry mark h number size links₀ faults₀ count (set tops (x % h) r) (set links r (1 + getD tops (x % h) 0)) faults n (tagged + 1) (m + 1)
+            → Linking entry mark h number size links₀ faults₀ count (set tops (x % h) r) (set links r (1 + getD tops (x % h) 0)) faults n (m + 1)
         link-new none inside =
             record {
               puts = puts-silent m (w .puts) (lone (tags entry mark) m has (λ (j : ℕ) (l : j < m) (q : tags entry mark j ≡ tags entry mark m). none j l (q ∙ e)));
               within = omega arith;
               linked = rw (add-one m, is) (linked-new entry mark h m tops links (w .linked) x e t none (omega (arith, inside, is, w .room)));
               room = length-set links r (1 + getD tops (x % h) 0) ∙ w .room;
-              few = omega (arith, w .few);
-              all = all-more has;
             }

@@ -105,6 +105,5 @@ pub fn put_doubled(
     if size <= 64 {
         return put_short(p, starts, heads, next, at, size, number, faults, count);
     }
-    let walked = super::links::walk_long(p, starts, heads, next, at, size, number, faults, count);
-    walked.n
+    super::links::walk_long(p, starts, heads, next, at, size, number, faults, count)
 }

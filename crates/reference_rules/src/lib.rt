@@ -15,7 +15,6 @@ ghost use Rattle.faults.specs.Emission.{Puts};
 ghost use Rattle.naming.specs.Naming.{isData, kindOf, ddiOf, tagOf};
 ghost use Rattle.naming.specs.Chained.{Names};
 ghost use Rattle.rules.specs.Table.{isParent, wrongKind, doubled, entryNamed, referenceRows, listRows};
-ghost use Rattle.field_rules.specs.Clean.{Apart};
 ghost use Rattle.reference_rules.specs.Lists.{entryTag};
 
 pub fn is_parent(kind: u16) -> bool
@@ -191,25 +190,4 @@ pub fn put_references(
         faults,
         n9,
     )
-}
-
-// Whether each entry of a long list names process data or a property, and no two the same DDI: then it breaks none of the rules on
-// entries. A list of more entries than there are records is not looked at: it names a record twice, or none.
-pub fn are_apart(
-    p: &[u8],
-    starts: &[u16],
-    heads: &[u16],
-    next: &[u16],
-    at: u16,
-    size: usize,
-) -> bool
-    requires { ⌜ Names (now p) (now starts) (now heads) (now next) × (size ≤ 32768) ⌝ }
-    ensures { λ r. ⌜ (r ≡ true → Apart (λ (m : ℕ). tagOf (now (p .entry)) (entriesOf (now (p .entry)) (now (starts .entry))) (entryNamed (now (p .entry)) (entriesOf (now (p .entry)) (now (starts .entry))) at m)) size) ⌝ }
-{
-    if starts.len() <= size {
-        return false;
-    }
-    let mut none = [0u16; 1];
-    let walked = links::walk_long(p, starts, heads, next, at, size, 0, &mut none, 0);
-    (walked.n == 0) & (walked.tagged == size)
 }

@@ -2,7 +2,7 @@
 // the first match. An entry that names the same record as an earlier one needs no walk: the record has a link already.
 ghost use mathlib.Core.Path.{_≡_};
 ghost use mathlib.Core.List.{[], _∷_};
-ghost use Prim.Native.Nat.{ℕ, _+_, _≤_, _<_, _^_};
+ghost use Prim.Native.Nat.{_+_, _≤_, _<_, _^_};
 ghost use lib.ListN.{length};
 ghost use Rattle.pool.specs.Walk.{entriesOf};
 ghost use Rattle.faults.specs.Rows.{many};
@@ -11,12 +11,6 @@ ghost use Rattle.naming.specs.Lists.{Blank};
 ghost use Rattle.naming.specs.Chained.{Names};
 ghost use Rattle.rules.specs.Table.{doubled};
 ghost use Rattle.reference_rules.specs.Lists.{entryTag};
-
-// What a walk along links has found: the count of faults, and how many entries name process data or a property.
-pub struct Walked {
-    pub n: usize,
-    pub tagged: usize,
-}
 
 // The walk, by lists that are lent. `tops` has under each remainder the record that was entered last, and `links` has under the number of
 // a record with a DDI
@@ -36,13 +30,12 @@ fn walk_links(
     number: u16,
     faults: &mut [u16],
     count: usize,
-) -> Walked
+) -> usize
     requires { ⌜ Names (now p) (now starts) (now heads) (now next) × (length (now tops) ≡ 2048) × Blank (now tops) × (length (now starts) ≤ length (now links)) × Blank (now links) × (size ≤ 32768) × (count < 2 ^ 41) ⌝ }
-    ensures { λ r. ⌜ Puts number (many 12 2 size (doubled (entryTag (now (p .entry)) (entriesOf (now (p .entry)) (now (starts .entry))) at)) ∷ []) (now (faults .entry)) count (now (faults .exit)) (r .n) × (r .n ≤ count + size) × (r .tagged ≡ size → (m : ℕ) → m < size → entryTag (now (p .entry)) (entriesOf (now (p .entry)) (now (starts .entry))) at m ≡ 0 → ⊥) ⌝ }
+    ensures { λ r. ⌜ Puts number (many 12 2 size (doubled (entryTag (now (p .entry)) (entriesOf (now (p .entry)) (now (starts .entry))) at)) ∷ []) (now (faults .entry)) count (now (faults .exit)) r × (r ≤ count + size) ⌝ }
 {
     let from = views::entries_from(p, at);
     let mut n = count;
-    let mut tagged: usize = 0;
     let mut m: usize = 0;
     'entries: while m < size {
         let named = naming::named_at(p, starts, heads, next, wire::read_u16(p, from + 2 * m));
@@ -51,7 +44,6 @@ fn walk_links(
         if tag == 0 {
             continue 'entries;
         }
-        tagged += 1;
         if links[named as usize] != 0 {
             n = faults::put_if(true, faults, n, number, 12, (1 + m) as u16);
             continue 'entries;
@@ -69,7 +61,7 @@ fn walk_links(
         links[named as usize] = 1 + tops[b];
         tops[b] = named;
     }
-    Walked { n, tagged }
+    n
 }
 
 // The same with lists of its own, which are on the stack of long lists alone.
@@ -83,9 +75,9 @@ pub fn walk_long(
     number: u16,
     faults: &mut [u16],
     count: usize,
-) -> Walked
+) -> usize
     requires { ⌜ Names (now p) (now starts) (now heads) (now next) × (size ≤ 32768) × (count < 2 ^ 41) ⌝ }
-    ensures { λ r. ⌜ Puts number (many 12 2 size (doubled (entryTag (now (p .entry)) (entriesOf (now (p .entry)) (now (starts .entry))) at)) ∷ []) (now (faults .entry)) count (now (faults .exit)) (r .n) × (r .n ≤ count + size) × (r .tagged ≡ size → (m : ℕ) → m < size → entryTag (now (p .entry)) (entriesOf (now (p .entry)) (now (starts .entry))) at m ≡ 0 → ⊥) ⌝ }
+    ensures { λ r. ⌜ Puts number (many 12 2 size (doubled (entryTag (now (p .entry)) (entriesOf (now (p .entry)) (now (starts .entry))) at)) ∷ []) (now (faults .entry)) count (now (faults .exit)) r × (r ≤ count + size) ⌝ }
 {
     let mut tops = [0u16; 2048];
     let mut links = [0u16; 5462];

@@ -223,6 +223,9 @@ fn has_window(len: usize, from: usize, to: usize) -> bool
 pub fn is_sound_in(p: &[u8], from: usize, to: usize) -> bool
     ensures { λ r. ⌜ r ≡ soundText (take (to - from) (drop from (now (p .entry)))) ⌝ }
 {
+    if from == to {
+        return true;
+    }
     if has_window(p.len(), from, to) {
         if is_single(p, from, to - from) {
             return true;

@@ -32,7 +32,7 @@ slice-aggregate-judge-named-4 c = search needs
 judge-named-requires : tie.Need-judge-named-requires
 judge-named-requires c κs =
     let few = starts-few (c .before .before .before .before .before .before .before .before .before .before .before .args .p .now) (c .before .before .before .before .before .before .before .before .before .before .before .args .starts .now) (c .before .before .before .before .before .before .before .before .before .before .before .pre) in
-    (c .before .before .before .before .before .before .name-ids .ensures, blank 684, blank 684, omega (arith, few, long 684 684 (omega arith)), omega (arith, few, long 684 684 (omega arith)))
+    (c .before .before .before .before .before .before .name-ids .ensures .0, blank 684, blank 684, omega (arith, few, long 684 684 (omega arith)), omega (arith, few, long 684 684 (omega arith)), c .before .before .before .before .before .before .name-ids .ensures .1)
 
 returns : tie.Need-returns
 returns c = rw (toZ-ofZ w32 (c .before .before .before .before .before .before .before .before .before .before .before .before .before .before .args .value) (c .before .before .before .before .before .before .before .before .before .before .before .before .before .before .fits .value)) at (c .before .before .judge-named .ensures)

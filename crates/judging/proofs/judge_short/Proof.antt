@@ -31,7 +31,7 @@ slice-aggregate-judge-named-4 c = search needs
 judge-named-requires : tie.Need-judge-named-requires
 judge-named-requires c κs =
     let few = c .before .before .before .before .before .before .before .before .before .before .before .pre .1 in
-    (c .before .before .before .before .before .before .name-ids .ensures, blank 128, blank 128, omega (arith, few, long 128 128 (omega arith)), omega (arith, few, long 128 128 (omega arith)))
+    (c .before .before .before .before .before .before .name-ids .ensures .0, blank 128, blank 128, omega (arith, few, long 128 128 (omega arith)), omega (arith, few, long 128 128 (omega arith)), c .before .before .before .before .before .before .name-ids .ensures .1)
 
 returns : tie.Need-returns
 returns c = rw (toZ-ofZ w32 (c .before .before .before .before .before .before .before .before .before .before .before .before .before .before .args .value) (c .before .before .before .before .before .before .before .before .before .before .before .before .before .before .fits .value)) at (c .before .before .judge-named .ensures)

@@ -3,7 +3,7 @@ use native.Mathlib.Omega.{arith}
 use lib.ListN.{length}
 use Rattle.pool.proofs.Starts.{starts-few}
 use Rattle.naming.specs.Lists.{idIn}
-use Rattle.naming.proofs.Chained.{slot-lt, entered-again, entered-first}
+use Rattle.naming.proofs.Chained.{slot-lt, opens-shut, opens-new, entered-again, entered-first}
 use borrow.Author.Needs.{needs}
 use Rattle.naming.proofs.enter.Statement.{statement}
 use Rattle.naming.proofs.enter.Tie as tie
@@ -32,7 +32,7 @@ same-length-2 c = search needs
 returns : tie.Need-returns
 returns c =
     let a = c .before .before .before .before .before .before .before .before .before .args in
-    entered-again (idIn (a .p .now) (a .starts .now)) (a .i) (a .heads .now) (a .next .now) (c .before .before .before .before .before .before .before .before .before .pre .3) (omega (arith, c .before .before .before .before .before .before .before .before .before .pre .1, c .before .before .before .before .before .before .before .before .before .pre .2)) (c .before .before .before .before .id-at .result) (c .before .find .result) (c .before .before .before .before .id-at .ensures) (c .before .find .ensures) (c .if1 .taken)
+    (opens-shut (idIn (a .p .now) (a .starts .now)) (a .i) (a .heads .now) (a .next .now) (c .before .before .before .before .before .before .before .before .before .pre .3) (omega (arith, c .before .before .before .before .before .before .before .before .before .pre .1, c .before .before .before .before .before .before .before .before .before .pre .2)) (c .before .before .before .before .id-at .result) (c .before .find .result) (c .before .before .before .before .id-at .ensures) (c .before .find .ensures) (c .if1 .taken), entered-again (idIn (a .p .now) (a .starts .now)) (a .i) (a .heads .now) (a .next .now) (c .before .before .before .before .before .before .before .before .before .pre .3) (omega (arith, c .before .before .before .before .before .before .before .before .before .pre .1, c .before .before .before .before .before .before .before .before .before .pre .2)) (c .before .before .before .before .id-at .result) (c .before .find .result) (c .before .before .before .before .id-at .ensures) (c .before .find .ensures) (c .if1 .taken))
 
 slot-of-requires : tie.Need-slot-of-requires
 slot-of-requires c κs = search needs
@@ -68,7 +68,7 @@ returns-2 : tie.Need-returns-2
 returns-2 c =
     let a = c .before .before .before .before .before .before .before .before .before .before .before .args in
     rw (c .before .slot-of .ensures)
-    (entered-first (idIn (a .p .now) (a .starts .now)) (a .i) (a .heads .now) (a .next .now) (c .before .before .before .before .before .before .before .before .before .before .before .pre .3) (omega (arith, c .before .before .before .before .before .before .before .before .before .before .before .pre .1, c .before .before .before .before .before .before .before .before .before .before .before .pre .2)) (c .before .before .before .before .before .before .id-at .result) (c .before .before .before .find .result) (c .before .before .before .before .before .before .id-at .ensures) (c .before .before .before .find .ensures) (c .before .before .if1 .left))
+    (opens-new (idIn (a .p .now) (a .starts .now)) (a .i) (a .heads .now) (a .next .now) (c .before .before .before .before .before .before .before .before .before .before .before .pre .3) (omega (arith, c .before .before .before .before .before .before .before .before .before .before .before .pre .1, c .before .before .before .before .before .before .before .before .before .before .before .pre .2)) (c .before .before .before .before .before .before .id-at .result) (c .before .before .before .find .result) (c .before .before .before .before .before .before .id-at .ensures) (c .before .before .before .find .ensures) (c .before .before .if1 .left), entered-first (idIn (a .p .now) (a .starts .now)) (a .i) (a .heads .now) (a .next .now) (c .before .before .before .before .before .before .before .before .before .before .before .pre .3) (omega (arith, c .before .before .before .before .before .before .before .before .before .before .before .pre .1, c .before .before .before .before .before .before .before .before .before .before .before .pre .2)) (c .before .before .before .before .before .before .id-at .result) (c .before .before .before .find .result) (c .before .before .before .before .before .before .id-at .ensures) (c .before .before .before .find .ensures) (c .before .before .if1 .left))
 
 pub enter-spec : {M : Type 1} → statement M
 enter-spec =

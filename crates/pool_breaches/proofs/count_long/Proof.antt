@@ -30,7 +30,7 @@ slice-aggregate-put-all-4 : tie.Need-slice-aggregate-put-all-4
 slice-aggregate-put-all-4 c = search needs
 
 put-all-requires : tie.Need-put-all-requires
-put-all-requires c κs = (c .before .before .before .before .before .before .before .name-ids .ensures, blank 684, blank 684, omega (arith, length-replicate {A = ℕ} 684 0, starts-few _ _ (c .before .before .before .before .before .before .before .before .before .before .before .before .before .pre)), omega (arith, length-replicate {A = ℕ} 684 0, starts-few _ _ (c .before .before .before .before .before .before .before .before .before .before .before .before .before .pre)))
+put-all-requires c κs = (c .before .before .before .before .before .before .before .name-ids .ensures .0, blank 684, blank 684, omega (arith, length-replicate {A = ℕ} 684 0, starts-few _ _ (c .before .before .before .before .before .before .before .before .before .before .before .before .before .pre)), omega (arith, length-replicate {A = ℕ} 684 0, starts-few _ _ (c .before .before .before .before .before .before .before .before .before .before .before .before .before .pre)), c .before .before .before .before .before .before .before .name-ids .ensures .1)
 
 same-length : tie.Need-same-length
 same-length c = search needs

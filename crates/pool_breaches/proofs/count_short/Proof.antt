@@ -29,7 +29,7 @@ slice-aggregate-put-all-4 : tie.Need-slice-aggregate-put-all-4
 slice-aggregate-put-all-4 c = search needs
 
 put-all-requires : tie.Need-put-all-requires
-put-all-requires c κs = (c .before .before .before .before .before .before .before .name-ids .ensures, blank 128, blank 128, omega (arith, length-replicate {A = ℕ} 128 0, c .before .before .before .before .before .before .before .before .before .before .before .before .before .pre .1), omega (arith, length-replicate {A = ℕ} 128 0, c .before .before .before .before .before .before .before .before .before .before .before .before .before .pre .1))
+put-all-requires c κs = (c .before .before .before .before .before .before .before .name-ids .ensures .0, blank 128, blank 128, omega (arith, length-replicate {A = ℕ} 128 0, c .before .before .before .before .before .before .before .before .before .before .before .before .before .pre .1), omega (arith, length-replicate {A = ℕ} 128 0, c .before .before .before .before .before .before .before .before .before .before .before .before .before .pre .1), c .before .before .before .before .before .before .before .name-ids .ensures .1)
 
 same-length : tie.Need-same-length
 same-length c = search needs

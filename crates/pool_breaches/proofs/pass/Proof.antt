@@ -42,7 +42,7 @@ put-other-requires : tie.Need-put-other-requires
 put-other-requires c κs =
     let a = c .before .before .before .before .before .before .before .before .before .before .before .before .args in
     let l : suc (a .i) < length (a .starts .now) = omega (arith, c .before .before .before .before .before .before .before .before .before .before .before .before .pre .1) in
-    (c .before .before .before .before .before .before .before .before .before .before .before .before .pre .0, c .before .before .before .before .before .before .before .before .before .before .before .before .pre .1, c .before .before .before .before .before .before .before .before .before .before .before .before .pre .2, c .before .before .record-kind .ensures, c .before .if1 .left, c .before .before .before .before .before .before .before .before .before .before .before .before .pre .5)
+    (c .before .before .before .before .before .before .before .before .before .before .before .before .pre .0, c .before .before .before .before .before .before .before .before .before .before .before .before .pre .6, c .before .before .before .before .before .before .before .before .before .before .before .before .pre .1, c .before .before .before .before .before .before .before .before .before .before .before .before .pre .2, c .before .before .record-kind .ensures, c .before .if1 .left, c .before .before .before .before .before .before .before .before .before .before .before .before .pre .5)
 
 same-length-6 : tie.Need-same-length-6
 same-length-6 c = search needs

@@ -22,7 +22,7 @@ slice-aggregate-put-records-2 : tie.Need-slice-aggregate-put-records-2
 slice-aggregate-put-records-2 c = search needs
 
 put-records-requires : tie.Need-put-records-requires
-put-records-requires c κs = (c .before .before .before .before .before .before .before .before .before .before .before .before .before .before .before .before .before .pre .0, c .before .before .before .before .before .before .before .before .before .first-device .ensures, sighted-start _ _ _ _ _ (omega (arith, length-replicate {A = ℕ} 512 0)) (c .before .before .before .before .before .before .before .before .before .before .before .before .before .before .before .before .before .pre .3) (c .before .before .before .before .before .before .before .before .before .before .before .before .before .before .before .before .before .pre .4) (blank 512) (c .before .before .before .before .before .before .before .before .before .before .before .before .before .before .before .before .before .pre .1) (c .before .before .before .before .before .before .before .before .before .before .before .before .before .before .before .before .before .pre .2), long 1024 1024 (omega arith), c .before .before .before .before .before .before .before .put-pool .ensures .1)
+put-records-requires c κs = (c .before .before .before .before .before .before .before .before .before .before .before .before .before .before .before .before .before .pre .0, c .before .before .before .before .before .before .before .before .before .first-device .ensures, sighted-start _ _ _ _ _ (omega (arith, length-replicate {A = ℕ} 512 0)) (c .before .before .before .before .before .before .before .before .before .before .before .before .before .before .before .before .before .pre .3) (c .before .before .before .before .before .before .before .before .before .before .before .before .before .before .before .before .before .pre .4) (blank 512) (c .before .before .before .before .before .before .before .before .before .before .before .before .before .before .before .before .before .pre .1) (c .before .before .before .before .before .before .before .before .before .before .before .before .before .before .before .before .before .pre .2), long 1024 1024 (omega arith), c .before .before .before .before .before .before .before .put-pool .ensures .1, c .before .before .before .before .before .before .before .before .before .before .before .before .before .before .before .before .before .pre .5)
 
 same-length : tie.Need-same-length
 same-length c = search needs

@@ -8,10 +8,10 @@ use Rattle.pool_breaches.proofs.put_records.Statement.{statement}
 use Rattle.pool_breaches.proofs.put_records.Tie as tie
 
 abbrev Inv-loop : tie.InvT-loop
-Inv-loop p starts heads next device numbers₀ again₀ endless₀ seen₀ faults₀ start count passed₀ i₀ numbers again endless seen faults passed i = Putting p starts numbers₀ again₀ endless₀ seen₀ faults₀ start numbers again endless seen faults (passed .n) (passed .full) i × (length starts ≤ 5462)
+Inv-loop p starts heads next owned device numbers₀ again₀ endless₀ seen₀ faults₀ start count passed₀ i₀ numbers again endless seen faults passed i = Putting p starts numbers₀ again₀ endless₀ seen₀ faults₀ start numbers again endless seen faults (passed .n) (passed .full) i × (length starts ≤ 5462)
 
 abbrev μ-loop : tie.MeasureT-loop
-μ-loop p starts heads next device numbers₀ again₀ endless₀ seen₀ faults₀ start count passed₀ i₀ numbers again endless seen faults passed i = length starts - i
+μ-loop p starts heads next owned device numbers₀ again₀ endless₀ seen₀ faults₀ start count passed₀ i₀ numbers again endless seen faults passed i = length starts - i
 
 sub-count : tie.Need-sub-count Inv-loop μ-loop
 sub-count c = omega (arith, names-some _ _ _ _ (c .before .before .before .before .before .before .before .before .before .pre .0))
@@ -22,7 +22,7 @@ loop-holds c =
     (putting-start (a .p .now) (a .starts .now) (a .numbers .now) (a .again .now) (a .endless .now) (a .seen .now) (a .faults .now) (a .start) (c .before .before .before .before .before .before .before .before .before .pre .2) (c .before .before .before .before .before .before .before .before .before .pre .3) (names-some _ _ _ _ (c .before .before .before .before .before .before .before .before .before .pre .0)), names-few _ _ _ _ (c .before .before .before .before .before .before .before .before .before .pre .0))
 
 pass-requires : tie.Need-pass-requires Inv-loop μ-loop
-pass-requires c κs = (c .before .before .before .before .before .before .before .before .before .before .before .before .before .before .before .before .pre .0, omega (arith, c .before .before .before .before .before .loop-test .taken), c .before .before .before .before .before .before .before .before .before .before .before .before .before .before .before .before .pre .1, c .before .before .before .before .before .before .loop .inv .0 .sighted, c .before .before .before .before .before .before .loop .inv .0 .places, omega (arith, c .before .before .before .before .before .before .loop .inv .0 .few, c .before .before .before .before .before .before .loop .inv .0 .within, c .before .before .before .before .before .before .loop .inv .1, c .before .before .before .before .before .before .before .before .before .before .before .before .before .before .before .before .pre .4))
+pass-requires c κs = (c .before .before .before .before .before .before .before .before .before .before .before .before .before .before .before .before .pre .0, omega (arith, c .before .before .before .before .before .loop-test .taken), c .before .before .before .before .before .before .before .before .before .before .before .before .before .before .before .before .pre .1, c .before .before .before .before .before .before .loop .inv .0 .sighted, c .before .before .before .before .before .before .loop .inv .0 .places, omega (arith, c .before .before .before .before .before .before .loop .inv .0 .few, c .before .before .before .before .before .before .loop .inv .0 .within, c .before .before .before .before .before .before .loop .inv .1, c .before .before .before .before .before .before .before .before .before .before .before .before .before .before .before .before .pre .4), c .before .before .before .before .before .before .before .before .before .before .before .before .before .before .before .before .pre .5)
 
 add-i : tie.Need-add-i Inv-loop μ-loop
 add-i c = omega (arith, c .before .before .before .before .before .before .before .before .before .before .before .before .before .before .before .before .loop-test .taken, c .before .before .before .before .before .before .before .before .before .before .before .before .before .before .before .before .before .loop .inv .1)
@@ -33,7 +33,7 @@ loop-less c = omega (arith, c .before .before .before .before .before .before .b
 loop-again : tie.Need-loop-again Inv-loop μ-loop
 loop-again c =
     let a = c .before .before .before .before .before .before .before .before .before .before .before .before .before .before .before .before .before .before .before .before .before .before .before .before .before .before .before .args in
-    (putting-more (a .p .now) (a .starts .now) (omega (arith, c .before .before .before .before .before .before .before .before .before .before .before .before .before .before .before .before .loop-test .taken)) (c .before .before .before .before .before .before .before .before .before .before .before .before .before .before .before .before .before .loop .inv .0) _ _ _ _ _ _ _ (c .before .before .before .before .before .before .before .before .before .before .pass .kept .1 .1 .1 .1 .1 .1 .1 .0) (c .before .before .before .before .before .before .before .before .before .before .pass .kept .1 .1 .1 .1 .1 .1 .1 .1 .0) (c .before .before .before .before .before .before .before .before .before .before .pass .kept .1 .1 .1 .1 .1 .1 .1 .1 .1 .0) (c .before .before .before .before .before .before .before .before .before .before .pass .kept .1 .1 .1 .1 .1 .1 .1 .1 .1 .1 .0) (c .before .before .before .before .before .before .before .before .before .before .pass .ensures .0) (c .before .before .before .before .before .before .before .before .before .before .pass .ensures .1), c .before .before .before .before .before .before .before .before .before .before .before .before .before .before .before .before .before .loop .inv .1)
+    (putting-more (a .p .now) (a .starts .now) (omega (arith, c .before .before .before .before .before .before .before .before .before .before .before .before .before .before .before .before .loop-test .taken)) (c .before .before .before .before .before .before .before .before .before .before .before .before .before .before .before .before .before .loop .inv .0) _ _ _ _ _ _ _ (c .before .before .before .before .before .before .before .before .before .before .pass .kept .1 .1 .1 .1 .1 .1 .1 .1 .0) (c .before .before .before .before .before .before .before .before .before .before .pass .kept .1 .1 .1 .1 .1 .1 .1 .1 .1 .0) (c .before .before .before .before .before .before .before .before .before .before .pass .kept .1 .1 .1 .1 .1 .1 .1 .1 .1 .1 .0) (c .before .before .before .before .before .before .before .before .before .before .pass .kept .1 .1 .1 .1 .1 .1 .1 .1 .1 .1 .1 .0) (c .before .before .before .before .before .before .before .before .before .before .pass .ensures .0) (c .before .before .before .before .before .before .before .before .before .before .pass .ensures .1), c .before .before .before .before .before .before .before .before .before .before .before .before .before .before .before .before .before .loop .inv .1)
 
 same-length : tie.Need-same-length Inv-loop μ-loop
 same-length c = c .before .loop .inv .0 .numbers-long

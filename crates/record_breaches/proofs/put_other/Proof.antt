@@ -37,8 +37,8 @@ unfolding repeats idIn
 put-faults-requires c κs =
     let a = c .before .before .before .before .before .before .before .before .before .before .before .before .args in
     let starts = a .starts .now in
-    let l : suc (a .i) < length starts = omega (arith, c .before .before .before .before .before .before .before .before .before .before .before .before .pre .1) in
-    (c .before .before .before .before .before .before .before .before .before .before .before .before .pre .0, c .before .before .before .before .before .before .before .before .before .before .before .before .pre .1, c .before .before .before .before .before .before .before .before .before .before .before .before .pre .2, c .before .before .before .before .before .before .before .before .before .before .before .before .pre .3, c .before .before .before .before .before .before .before .before .before .before .before .before .pre .4, c .before .before .is-bad-id .ensures ∙ ap (badOwn (a .kind)) (c .before .before .before .id .ensures ∙ sym (id-read (a .p .now) starts (a .i) l)), c .before .repeats-id .ensures, c .before .before .before .before .before .before .before .before .before .before .before .before .pre .5)
+    let l : suc (a .i) < length starts = omega (arith, c .before .before .before .before .before .before .before .before .before .before .before .before .pre .2) in
+    (c .before .before .before .before .before .before .before .before .before .before .before .before .pre .0, c .before .before .before .before .before .before .before .before .before .before .before .before .pre .2, c .before .before .before .before .before .before .before .before .before .before .before .before .pre .3, c .before .before .before .before .before .before .before .before .before .before .before .before .pre .4, c .before .before .before .before .before .before .before .before .before .before .before .before .pre .5, c .before .before .is-bad-id .ensures ∙ ap (badOwn (a .kind)) (c .before .before .before .id .ensures ∙ sym (id-read (a .p .now) starts (a .i) l)), c .before .repeats-id .ensures, c .before .before .before .before .before .before .before .before .before .before .before .before .pre .6)
 
 same-length : tie.Need-same-length
 same-length c = search needs

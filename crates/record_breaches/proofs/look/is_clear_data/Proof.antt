@@ -10,7 +10,7 @@ use Rattle.records.specs.declared.ProcessData.{ProcessData}
 use Rattle.pool.specs.Walk.{entriesOf}
 use Rattle.naming.proofs.Starts.{start-read}
 use Rattle.rules.specs.Table.{badSource}
-use Rattle.rules.proofs.Truth.{both, untrue}
+use Rattle.rules.proofs.Truth.{untrue}
 use Rattle.record_breaches.proofs.Looking.{data-looked}
 use Rattle.record_breaches.proofs.Rows.{record-looked}
 use borrow.Author.Needs.{needs}
@@ -54,7 +54,10 @@ returns-2 : tie.Need-returns-2
 returns-2 c t = untrue t
 
 is-own-requires : tie.Need-is-own-requires
-is-own-requires c κs = search needs
+is-own-requires c κs = (c .before .before .before .before .before .before .before .before .pre .0, c .before .before .before .before .before .before .before .before .pre .1, c .before .before .before .before .before .before .before .before .pre .2, λ e. omega arith)
+
+returns-3 : tie.Need-returns-3
+returns-3 c t = untrue t
 
 process-data-requires : tie.Need-process-data-requires
 process-data-requires c κs = search needs
@@ -62,14 +65,17 @@ process-data-requires c κs = search needs
 is-fit-data-requires : tie.Need-is-fit-data-requires
 is-fit-data-requires c κs = search needs
 
+returns-4 : tie.Need-returns-4
+returns-4 c t = untrue t
+
 add-is-sound-in : tie.Need-add-is-sound-in
 add-is-sound-in c = search needs
 
 is-sound-in-requires : tie.Need-is-sound-in-requires
 is-sound-in-requires c κs = search needs
 
-returns-3 : tie.Need-returns-3
-returns-3 c t = untrue t
+returns-5 : tie.Need-returns-5
+returns-5 c t = untrue t
 
 pair-requires : tie.Need-pair-requires
 pair-requires c κs = search needs
@@ -77,19 +83,17 @@ pair-requires c κs = search needs
 is-presented-requires : tie.Need-is-presented-requires
 is-presented-requires c κs = search needs
 
-returns-4 : tie.Need-returns-4
-returns-4 c t k =
-    let a = c .before .before .before .before .before .before .before .before .before .before .before .before .before .before .before .args in
+returns-6 : tie.Need-returns-6
+returns-6 c t k =
+    let a = c .before .before .before .before .before .before .before .before .before .before .before .before .before .before .before .before .before .args in
     let p = a .p .now in
     let starts = a .starts .now in
     let es = entriesOf p starts in
     let at = getD starts (a .i) 0 in
-    let l : suc (a .i) < length starts = omega (arith, c .before .before .before .before .before .before .before .before .before .before .before .before .before .before .before .pre .1) in
-    let all = both _ _ (not-false _ (c .before .before .if3 .left)) in
-    let own = both _ _ (all .0) in
-    let fit = ap (λ (d : ProcessData). not (ltb 7 (d .properties) || badSource (d .properties) || ltb 31 (d .triggers))) (sym (c .before .before .before .before .before .process-data .ensures)) ∙ sym (c .before .before .before .before .is-fit-data .ensures) ∙ own .1 in
-    record-looked p es (a .i) 3 (sym k) (sym (c .before .before .before .before .before .before .is-own .ensures) ∙ own .0)
-    (data-looked p es 3 at (at + 9) (c .before .pair .result) (c .before .pair .ensures) (sym (c .before .before .before .is-sound-in .ensures) ∙ all .1) (c .is-presented .ensures t) (a .i) (start-read p starts (a .i) l) refl refl fit)
+    let l : suc (a .i) < length starts = omega (arith, c .before .before .before .before .before .before .before .before .before .before .before .before .before .before .before .before .before .pre .2) in
+    let fit = ap (λ (d : ProcessData). not (ltb 7 (d .properties) || badSource (d .properties) || ltb 31 (d .triggers))) (sym (c .before .before .before .before .before .before .process-data .ensures)) ∙ sym (c .before .before .before .before .before .is-fit-data .ensures) ∙ not-false _ (c .before .before .before .before .if4 .left) in
+    record-looked p es (a .i) 3 (sym k) (c .before .before .before .before .before .before .before .before .is-own .ensures (not-false _ (c .before .before .before .before .before .before .before .if3 .left)) k)
+    (data-looked p es 3 at (at + 9) (c .before .pair .result) (c .before .pair .ensures) (sym (c .before .before .before .is-sound-in .ensures) ∙ not-false _ (c .before .before .if5 .left)) (c .is-presented .ensures t) (a .i) (start-read p starts (a .i) l) refl refl fit)
 
 pub is-clear-data-spec : {M : Type 1} → statement M
 is-clear-data-spec =
@@ -108,11 +112,13 @@ is-clear-data-spec =
     add-if2
     returns-2
     is-own-requires
+    returns-3
     process-data-requires
     is-fit-data-requires
+    returns-4
     add-is-sound-in
     is-sound-in-requires
-    returns-3
+    returns-5
     pair-requires
     is-presented-requires
-    returns-4)
+    returns-6)

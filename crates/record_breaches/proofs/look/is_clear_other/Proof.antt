@@ -9,19 +9,19 @@ is-clear-data-requires : tie.Need-is-clear-data-requires
 is-clear-data-requires c κs = search needs
 
 returns : tie.Need-returns
-returns c t = c .is-clear-data .ensures t (sym (c .before .before .before .before .before .before .pre .2) ∙ c .before .if1 .taken)
+returns c t = c .is-clear-data .ensures t (sym (c .before .before .before .before .before .before .pre .3) ∙ c .before .if1 .taken)
 
 is-clear-property-requires : tie.Need-is-clear-property-requires
 is-clear-property-requires c κs = search needs
 
 returns-2 : tie.Need-returns-2
-returns-2 c t = c .is-clear-property .ensures t (sym (c .before .before .before .before .before .before .before .pre .2) ∙ c .before .if2 .taken)
+returns-2 c t = c .is-clear-property .ensures t (sym (c .before .before .before .before .before .before .before .pre .3) ∙ c .before .if2 .taken)
 
 is-clear-value-requires : tie.Need-is-clear-value-requires
 is-clear-value-requires c κs = search needs
 
 returns-3 : tie.Need-returns-3
-returns-3 c t = c .is-clear-value .ensures t (sym (c .before .before .before .before .before .before .before .before .pre .2) ∙ c .before .if3 .taken)
+returns-3 c t = c .is-clear-value .ensures t (sym (c .before .before .before .before .before .before .before .before .pre .3) ∙ c .before .if3 .taken)
 
 returns-4 : tie.Need-returns-4
 returns-4 c t = untrue t

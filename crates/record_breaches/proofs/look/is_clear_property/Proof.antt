@@ -6,7 +6,7 @@ use borrow.Author.Tests.{not-false}
 use lib.ListN.{length, getD}
 use Rattle.pool.specs.Walk.{entriesOf}
 use Rattle.naming.proofs.Starts.{start-read}
-use Rattle.rules.proofs.Truth.{both, untrue}
+use Rattle.rules.proofs.Truth.{untrue}
 use Rattle.record_breaches.proofs.Looking.{property-looked}
 use Rattle.record_breaches.proofs.Rows.{record-looked}
 use borrow.Author.Needs.{needs}
@@ -50,7 +50,10 @@ returns-2 : tie.Need-returns-2
 returns-2 c t = untrue t
 
 is-own-requires : tie.Need-is-own-requires
-is-own-requires c κs = search needs
+is-own-requires c κs = (c .before .before .before .before .before .before .before .before .pre .0, c .before .before .before .before .before .before .before .before .pre .1, c .before .before .before .before .before .before .before .before .pre .2, λ e. omega arith)
+
+returns-3 : tie.Need-returns-3
+returns-3 c t = untrue t
 
 add-is-sound-in : tie.Need-add-is-sound-in
 add-is-sound-in c = search needs
@@ -58,8 +61,8 @@ add-is-sound-in c = search needs
 is-sound-in-requires : tie.Need-is-sound-in-requires
 is-sound-in-requires c κs = search needs
 
-returns-3 : tie.Need-returns-3
-returns-3 c t = untrue t
+returns-4 : tie.Need-returns-4
+returns-4 c t = untrue t
 
 pair-requires : tie.Need-pair-requires
 pair-requires c κs = search needs
@@ -67,17 +70,16 @@ pair-requires c κs = search needs
 is-presented-requires : tie.Need-is-presented-requires
 is-presented-requires c κs = search needs
 
-returns-4 : tie.Need-returns-4
-returns-4 c t k =
-    let a = c .before .before .before .before .before .before .before .before .before .before .before .before .before .args in
+returns-5 : tie.Need-returns-5
+returns-5 c t k =
+    let a = c .before .before .before .before .before .before .before .before .before .before .before .before .before .before .args in
     let p = a .p .now in
     let starts = a .starts .now in
     let es = entriesOf p starts in
     let at = getD starts (a .i) 0 in
-    let l : suc (a .i) < length starts = omega (arith, c .before .before .before .before .before .before .before .before .before .before .before .before .before .pre .1) in
-    let all = both _ _ (not-false _ (c .before .before .if3 .left)) in
-    record-looked p es (a .i) 4 (sym k) (sym (c .before .before .before .before .is-own .ensures) ∙ all .0)
-    (property-looked p es 4 at (at + 11) (c .before .pair .result) (c .before .pair .ensures) (sym (c .before .before .before .is-sound-in .ensures) ∙ all .1) (c .is-presented .ensures t) (a .i) (start-read p starts (a .i) l) refl refl)
+    let l : suc (a .i) < length starts = omega (arith, c .before .before .before .before .before .before .before .before .before .before .before .before .before .before .pre .2) in
+    record-looked p es (a .i) 4 (sym k) (c .before .before .before .before .before .is-own .ensures (not-false _ (c .before .before .before .before .if3 .left)) k)
+    (property-looked p es 4 at (at + 11) (c .before .pair .result) (c .before .pair .ensures) (sym (c .before .before .before .is-sound-in .ensures) ∙ not-false _ (c .before .before .if4 .left)) (c .is-presented .ensures t) (a .i) (start-read p starts (a .i) l) refl refl)
 
 pub is-clear-property-spec : {M : Type 1} → statement M
 is-clear-property-spec =
@@ -96,9 +98,10 @@ is-clear-property-spec =
     add-if2
     returns-2
     is-own-requires
+    returns-3
     add-is-sound-in
     is-sound-in-requires
-    returns-3
+    returns-4
     pair-requires
     is-presented-requires
-    returns-4)
+    returns-5)

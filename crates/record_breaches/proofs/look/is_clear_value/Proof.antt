@@ -33,7 +33,7 @@ returns : tie.Need-returns
 returns c t = untrue t
 
 is-own-requires : tie.Need-is-own-requires
-is-own-requires c κs = search needs
+is-own-requires c κs = (c .before .before .before .before .before .before .pre .0, c .before .before .before .before .before .before .pre .1, c .before .before .before .before .before .before .pre .2, λ e. omega arith)
 
 value-presentation-requires : tie.Need-value-presentation-requires
 value-presentation-requires c κs = search needs
@@ -51,12 +51,12 @@ returns-2 c t k =
     let starts = a .starts .now in
     let es = entriesOf p starts in
     let at = getD starts (a .i) 0 in
-    let l : suc (a .i) < length starts = omega (arith, c .before .before .before .before .before .before .before .before .before .before .pre .1) in
+    let l : suc (a .i) < length starts = omega (arith, c .before .before .before .before .before .before .before .before .before .before .pre .2) in
     let v = c .before .before .value-presentation .result in
     let all = both _ _ t in
     let own = both _ _ (all .0) in
     let rows : AllClear (valueRows p (presentationOf p at)) = subst (λ (x : ValuePresentation). AllClear (valueRows p x)) (c .before .before .value-presentation .ensures) (value-clear p v (sym (c .before .is-fit-value .ensures) ∙ own .1) (sym (c .is-sound-in .ensures) ∙ all .1)) in
-    record-looked p es (a .i) 5 (sym k) (sym (c .before .before .before .is-own .ensures) ∙ own .0) (rw (value-rows p es (a .i) at (start-read p starts (a .i) l) 5 refl (presentationOf p at) refl) rows)
+    record-looked p es (a .i) 5 (sym k) (c .before .before .before .is-own .ensures (own .0) k) (rw (value-rows p es (a .i) at (start-read p starts (a .i) l) 5 refl (presentationOf p at) refl) rows)
 
 pub is-clear-value-spec : {M : Type 1} → statement M
 is-clear-value-spec =

@@ -29,18 +29,18 @@ below p starts heads next element i h =
     (λ (j : ℕ). named-inside p starts heads next h (entryOf p element j)) i
 
 abbrev Inv-loop : tie.InvT-loop
-Inv-loop p starts heads next at tops links₀ size number faults₀ count from n₀ tagged m named tag b k₀ links faults n k =
+Inv-loop p starts heads next at tops links₀ size number faults₀ count from n₀ m named tag b k₀ links faults n k =
     (links ≡ links₀) × (faults ≡ faults₀) × (n ≡ n₀) × ((q : ℕ) → m ≡ q + 1 → Walks (entryNamed p (entriesOf p starts) at) (tagOf p (entriesOf p starts)) 2048 q tag k) × (k < length starts)
 
 abbrev μ-loop : tie.MeasureT-loop
-μ-loop p starts heads next at tops links₀ size number faults₀ count from n₀ tagged m named tag b k₀ links faults n k = place (entryNamed p (entriesOf p starts) at) size k
+μ-loop p starts heads next at tops links₀ size number faults₀ count from n₀ m named tag b k₀ links faults n k = place (entryNamed p (entriesOf p starts) at) size k
 
 abbrev Inv-entries : tie.InvT-entries
-Inv-entries p starts heads next at tops₀ links₀ size number faults₀ count from n₀ tagged₀ m₀ tops links faults n tagged m =
-    Linking (entryNamed p (entriesOf p starts) at) (tagOf p (entriesOf p starts)) 2048 number size links₀ faults₀ count tops links faults n tagged m
+Inv-entries p starts heads next at tops₀ links₀ size number faults₀ count from n₀ m₀ tops links faults n m =
+    Linking (entryNamed p (entriesOf p starts) at) (tagOf p (entriesOf p starts)) 2048 number size links₀ faults₀ count tops links faults n m
 
 abbrev μ-entries : tie.MeasureT-entries
-μ-entries p starts heads next at tops₀ links₀ size number faults₀ count from n₀ tagged₀ m₀ tops links faults n tagged m = size - m
+μ-entries p starts heads next at tops₀ links₀ size number faults₀ count from n₀ m₀ tops links faults n m = size - m
 
 entries-from-requires : tie.Need-entries-from-requires Inv-loop μ-loop Inv-entries μ-entries
 entries-from-requires c κs = tt
@@ -84,10 +84,7 @@ entries-again c =
     let none = tag-nothing (a .p .now) es in
     let names : c .before .before .named-at .result ≡ entry (v .m) = c .before .before .named-at .ensures ∙ ap (named es) (c .before .before .before .read-u16 .ensures ∙ sym (c .before .before .before .before .before .before .entries-from .ensures .0 (v .m))) in
     let is : c .before .tag-at .result ≡ mark (entry (v .m)) = c .before .tag-at .ensures .0 ∙ ap mark names in
-    link-plain entry mark none 2048 (a .number) (a .size) (a .links .now) (a .faults .now) (a .count) (v .tops) (v .links) (v .faults) (v .n) (v .tagged) (v .m) (c .before .before .before .before .entries-test .taken) (v .inv) (sym is ∙ c .if1 .taken)
-
-add-tagged : tie.Need-add-tagged Inv-loop μ-loop Inv-entries μ-entries
-add-tagged c = omega (arith, c .before .before .before .before .before .entries .inv .few, c .before .before .before .before .entries-test .taken, c .before .before .before .before .before .before .before .before .before .before .before .before .before .before .pre .5)
+    link-plain entry mark none 2048 (a .number) (a .size) (a .links .now) (a .faults .now) (a .count) (v .tops) (v .links) (v .faults) (v .n) (v .m) (c .before .before .before .before .entries-test .taken) (v .inv) (sym is ∙ c .if1 .taken)
 
 cast-if2 : tie.Need-cast-if2 Inv-loop μ-loop Inv-entries μ-entries
 cast-if2 c = omega arith
@@ -122,7 +119,7 @@ entries-again-2 c =
     let none = tag-nothing (a .p .now) es in
     let names : c .before .before .before .before .before .before .before .before .named-at .result ≡ entry (v .m) = c .before .before .before .before .before .before .before .before .named-at .ensures ∙ ap (named es) (c .before .before .before .before .before .before .before .before .before .read-u16 .ensures ∙ sym (c .before .before .before .before .before .before .before .before .before .before .before .before .entries-from .ensures .0 (v .m))) in
     let is : c .before .before .before .before .before .before .before .tag-at .result ≡ mark (entry (v .m)) = c .before .before .before .before .before .before .before .tag-at .ensures .0 ∙ ap mark names in
-    link-known entry mark none 2048 (a .number) (a .size) (a .links .now) (a .faults .now) (a .count) (v .tops) (v .links) (v .faults) (v .n) (v .tagged) (v .m) (c .before .before .before .before .before .before .before .before .before .before .entries-test .taken) (v .inv) (c .before .before .before .before .before .before .before .tag-at .result) (sym is) (c .before .before .before .before .before .before .if1 .left) (c .before .before .before .before .before .before .before .before .named-at .result) names (c .before .before .before .before .if2 .taken) (1 + (v .m + 1)) _ _ (omega arith) (c .before .before .put-if .ensures .0)
+    link-known entry mark none 2048 (a .number) (a .size) (a .links .now) (a .faults .now) (a .count) (v .tops) (v .links) (v .faults) (v .n) (v .m) (c .before .before .before .before .before .before .before .before .before .before .entries-test .taken) (v .inv) (c .before .before .before .before .before .before .before .tag-at .result) (sym is) (c .before .before .before .before .before .before .if1 .left) (c .before .before .before .before .before .before .before .before .named-at .result) names (c .before .before .before .before .if2 .taken) (1 + (v .m + 1)) _ _ (omega arith) (c .before .before .put-if .ensures .0)
 
 mul-k : tie.Need-mul-k Inv-loop μ-loop Inv-entries μ-entries
 mul-k c = omega (arith, mod-lt (c .before .before .before .tag-at .result) (c .before .before .before .before .before .before .before .entries .inv .linked .some))
@@ -188,7 +185,7 @@ entries-again-3 c =
     let l = c .before .before .before .before .before .before .before .loop in
     let walks : Walks entry mark 2048 (v .m) (c .before .before .before .before .before .before .before .before .before .before .before .before .tag-at .result) (l .k) = l .inv .3 (v .m) refl in
     let found : mark (l .k) ≡ c .before .before .before .before .before .before .before .before .before .before .before .before .tag-at .result = omega (arith, tag-ddi (a .p .now) es (l .k) (standing-tagged entry mark none (v .m) 2048 (c .before .before .before .before .before .before .before .before .before .before .before .before .tag-at .result) (l .k) (c .before .before .before .before .before .before .loop-test .taken) walks), c .before .before .before .before .before .ddi-at .ensures, c .before .before .before .before .if3 .taken) in
-    rw (l .inv .0) (link-met entry mark none 2048 (a .number) (a .size) (a .links .now) (a .faults .now) (a .count) (v .tops) (v .links) (v .faults) (v .n) (v .tagged) (v .m) (c .before .before .before .before .before .before .before .before .before .before .before .before .before .before .before .entries-test .taken) (v .inv) (c .before .before .before .before .before .before .before .before .before .before .before .before .tag-at .result) (sym is) (c .before .before .before .before .before .before .before .before .before .before .before .if1 .left) (c .before .before .before .before .before .before .before .before .before .before .before .before .before .named-at .result) names (c .before .before .before .before .before .before .before .before .before .if2 .left) (l .k) 65535 (1 + (v .m + 1)) _ _ (c .before .before .before .before .before .before .loop-test .taken) walks found (omega arith) (rw (← l .inv .1, ← l .inv .2) (c .before .before .put-if2 .ensures .0)))
+    rw (l .inv .0) (link-met entry mark none 2048 (a .number) (a .size) (a .links .now) (a .faults .now) (a .count) (v .tops) (v .links) (v .faults) (v .n) (v .m) (c .before .before .before .before .before .before .before .before .before .before .before .before .before .before .before .entries-test .taken) (v .inv) (c .before .before .before .before .before .before .before .before .before .before .before .before .tag-at .result) (sym is) (c .before .before .before .before .before .before .before .before .before .before .before .if1 .left) (c .before .before .before .before .before .before .before .before .before .before .before .before .before .named-at .result) names (c .before .before .before .before .before .before .before .before .before .if2 .left) (l .k) 65535 (1 + (v .m + 1)) _ _ (c .before .before .before .before .before .before .loop-test .taken) walks found (omega arith) (rw (← l .inv .1, ← l .inv .2) (c .before .before .put-if2 .ensures .0)))
 
 cast-k : tie.Need-cast-k Inv-loop μ-loop Inv-entries μ-entries
 cast-k c = omega arith
@@ -284,7 +281,7 @@ entries-again-4 c =
     let is : c .before .before .before .before .before .before .before .tag-at .result ≡ mark (entry (v .m)) = c .before .before .before .before .before .before .before .tag-at .ensures .0 ∙ ap mark names in
     let l = c .before .before .loop in
     let without = walks-out entry mark none (v .m) 2048 (c .before .before .before .before .before .before .before .tag-at .result) (l .k) (c .before .loop-test .left) (c .before .before .before .before .before .before .if1 .left) (l .inv .3 (v .m) refl) in
-    rw (l .inv .0, l .inv .1, l .inv .2) (link-new entry mark none 2048 (a .number) (a .size) (a .links .now) (a .faults .now) (a .count) (v .tops) (v .links) (v .faults) (v .n) (v .tagged) (v .m) (c .before .before .before .before .before .before .before .before .before .before .entries-test .taken) (v .inv) (c .before .before .before .before .before .before .before .tag-at .result) (sym is) (c .before .before .before .before .before .before .if1 .left) (c .before .before .before .before .before .before .before .before .named-at .result) names without (omega (arith, c .before .before .before .before .before .before .before .before .named-at .ensures, named-inside (a .p .now) (a .starts .now) (a .heads .now) (a .next .now) (c .before .before .before .before .before .before .before .before .before .before .before .before .before .before .before .before .before .before .before .before .pre .0) (c .before .before .before .before .before .before .before .before .before .read-u16 .result), c .before .before .before .before .before .before .before .before .before .before .before .before .before .before .before .before .before .before .before .before .pre .3)))
+    rw (l .inv .0, l .inv .1, l .inv .2) (link-new entry mark none 2048 (a .number) (a .size) (a .links .now) (a .faults .now) (a .count) (v .tops) (v .links) (v .faults) (v .n) (v .m) (c .before .before .before .before .before .before .before .before .before .before .entries-test .taken) (v .inv) (c .before .before .before .before .before .before .before .tag-at .result) (sym is) (c .before .before .before .before .before .before .if1 .left) (c .before .before .before .before .before .before .before .before .named-at .result) names without (omega (arith, c .before .before .before .before .before .before .before .before .named-at .ensures, named-inside (a .p .now) (a .starts .now) (a .heads .now) (a .next .now) (c .before .before .before .before .before .before .before .before .before .before .before .before .before .before .before .before .before .before .before .before .pre .0) (c .before .before .before .before .before .before .before .before .before .read-u16 .result), c .before .before .before .before .before .before .before .before .before .before .before .before .before .before .before .before .before .before .before .before .pre .3)))
 
 same-length : tie.Need-same-length Inv-loop μ-loop Inv-entries μ-entries
 same-length c = c .before .entries .inv .linked .wide ∙ sym (c .before .before .before .before .before .before .before .before .before .before .pre .1)
@@ -301,7 +298,7 @@ returns c =
     let v = c .before .entries in
     let end : v .m ≡ a .size = omega (arith, c .entries-test .left, v .inv .within) in
     let put = subst (λ (m : ℕ). Puts (a .number) (many 12 2 m (doubled (entryTag (a .p .now) (entriesOf (a .p .now) (a .starts .now)) (a .at))) ∷ []) (a .faults .now) (a .count) (v .faults) (v .n)) end (v .inv .puts) in
-    (put, puts-few put, λ e m b. v .inv .all (e ∙ sym end) m (omega arith))
+    (put, puts-few put)
 
 pub walk-links-spec : {M : Type 1} → statement M
 walk-links-spec =
@@ -321,7 +318,6 @@ walk-links-spec =
     add-m
     entries-less
     entries-again
-    add-tagged
     cast-if2
     mul-if2
     slice-read-if2
