@@ -1,6 +1,5 @@
 -- The book keeps a pool exactly where it is accepted. Assumes nothing.
 use mathlib.Core.Path.{_≡_, refl, sym, ap, ap₂, _∙_}
-use mathlib.Core.Bool.{Bool, true, false}
 use mathlib.Core.Logic.{_↔_}
 use mathlib.Core.List.{List, [], _∷_, List·Memᴰ, List·Memᴰ·head, List·Memᴰ·not-nil}
 use Prim.Native.Nat.{ℕ, zero, suc, _≤_, _<_}
@@ -10,7 +9,7 @@ use lib.Dec.{eqb}
 use lib.ListN.{length}
 use Rattle.division.specs.Division.{Division, Divides}
 use Rattle.pool.specs.Answer.{Answer, answer}
-use Rattle.pool.specs.Reading.{readOf, pick}
+use Rattle.pool.specs.Reading.{readOf}
 use Rattle.faults.specs.Faults.{Fault, fault}
 use Rattle.rules.specs.Breach.{Breach}
 use Rattle.rules.specs.Table.{breachesOf}

@@ -1,6 +1,6 @@
 -- Each call does as the book says. Assumes nothing.
 use mathlib.Core.Path.{_≡_, refl, sym, ap, _∙_, subst}
-use mathlib.Core.Bool.{Bool, true, false, not, cond, _&&_, _||_, true≢false}
+use mathlib.Core.Bool.{Bool, true, false, cond, _||_, true≢false}
 use mathlib.Core.List.{List, [], _∷_, _++_, append-assoc}
 use Prim.Native.Nat.{ℕ, _+_, _-_, _≤_, _<_}
 use native.Mathlib.Omega.{arith}
@@ -135,7 +135,7 @@ module _ (ls lk : ℕ) (b : Book) (st k : List ℕ) (g : Good ls lk b st k) wher
   -- what follows from what checking says
   decided-ok : b .offered ≡ true → length (b .arrived) ≡ b .announced → (a : Answer)
       → Ok ls lk (Act.decided (record { announced = b .announced; received = length (b .arrived); kept = length (b .kept); stage = 1; active = cond (b .active) 1 0 }) (b .arrived) a)
-      (checked b a) st (S.choose (Act.accepted a) (sets k 0 (b .arrived)) k)
+      (checked b a) st (cond (Act.accepted a) (sets k 0 (b .arrived)) k)
   decided-ok o q a =
       by-case (eqb (a .number) 0)
       (λ e0.

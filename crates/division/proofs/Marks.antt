@@ -1,6 +1,6 @@
 -- The three letters at a record's start. Assumes nothing.
 use mathlib.Core.Path.{_≡_, refl, sym, ap, ap₂, _∙_, subst}
-use mathlib.Core.Bool.{Bool, true, false, _&&_}
+use mathlib.Core.Bool.{Bool, true, false, cond, _&&_}
 use mathlib.Core.List.{List, [], _∷_, _++_, append-assoc}
 use Prim.Native.Nat.{ℕ, _+_, _≤_}
 use native.Mathlib.Omega.{arith}
@@ -8,7 +8,7 @@ use borrow.Author.Tests.{eqb-true}
 use lib.Dec.{eqb}
 use lib.ListN.{length, take, length-append}
 use lib.Seq.{getD-append-seam, getD-append-add, take-at}
-use Rattle.records.specs.Layout.{mark, same, pickMark, markOf, three, layout}
+use Rattle.records.specs.Layout.{mark, same, markOf, three, layout}
 use Rattle.records.specs.Extents.{extentOf, fieldsEnd, markedEnd}
 use Rattle.records.specs.declared.Kind.{Kind}
 use Rattle.records.specs.declared.Kind.the-variants.{Dvc, Det, Dpd, Dpt, Dvp}
@@ -56,9 +56,9 @@ unfolding markOf
 mark-says s = test Dvc (test Det (test Dpd (test Dpt (test Dvp (Unknown, tt))))) .1
   where
     test : Kind → (m : Mark) × Says s m → (m : Mark) × Says s m
-    test k h = (pickMark (same s (mark k)) (Of k) (h .0), go (same s (mark k)) refl)
+    test k h = (cond (same s (mark k)) (Of k) (h .0), go (same s (mark k)) refl)
       where
-        go : (b : Bool) → same s (mark k) ≡ b → Says s (pickMark b (Of k) (h .0))
+        go : (b : Bool) → same s (mark k) ≡ b → Says s (cond b (Of k) (h .0))
         go true e = same-equal s (mark k) e
         go false e = h .1
 

@@ -1,6 +1,6 @@
 -- Messages written and read back, and read and written back. Assumes nothing.
 use mathlib.Core.Path.{_≡_, refl, sym, ap, ap₂, _∙_}
-use mathlib.Core.Bool.{Bool, true, false, not, _&&_, _||_, cond, true≢false}
+use mathlib.Core.Bool.{Bool, true, false, not, _||_, cond, true≢false}
 use mathlib.Core.List.{List, [], _∷_, _++_}
 use Prim.Native.Nat.{ℕ, zero, suc, _+_, _*_, _/_, _%_, _^_, _≤_, _<_}
 use native.Mathlib.Omega.{arith}
@@ -17,7 +17,7 @@ use Rattle.wire.specs.Bytes.{Octets, leOf, bytesOf, numberAt, signedOf, bitsOf}
 use Rattle.wire.proofs.Width.{back, bytes-long}
 use Rattle.wire.proofs.Complement.{bits-small, signed-bits}
 use Rattle.messages.specs.Layout.{carriesValue, headBytes, valueBytes, acknowledgeBytes, acknowledge}
-use Rattle.messages.specs.Reading.{Fields, valued, acknowledged, refused, choose, readOf}
+use Rattle.messages.specs.Reading.{Fields, valued, acknowledged, refused, readOf}
 use Rattle.messages.specs.Writing.{valueRefusal, valueAfter, acknowledgeRefusal, acknowledgeAfter}
 use Rattle.messages.specs.Back.{ReadsBack}
 use Rattle.messages.proofs.Laying.{command-small, first-eight}
