@@ -10,6 +10,7 @@ use borrow.Author.Tests.{ltb-true, ltb-false, le-ltb, eqb-true, ne-eqb}
 use lib.Dec.{eqb, ltb}
 use lib.ListN.{length, take, drop}
 use lib.Seq.{sets, sets-eq}
+use Rattle.wire.proofs.Either.{by-case}
 use Rattle.pool.specs.Answer.{Answer}
 use Rattle.working_table.specs.declared.Record.{Record}
 use Rattle.faults.specs.Faults.{fault}
@@ -24,7 +25,6 @@ use Rattle.book.specs.Run.{Functions, sessionOf}
 use Rattle.book.specs.Claim.{Accepted, Turn, won, deleted, stays}
 use Rattle.book.proofs.Good.{Good, possible, is-one}
 use Rattle.book.proofs.Follows.{keptBy, tableBy, Did}
-use Rattle.book.proofs.Steps.{by-case}
 use Rattle.book.proofs.Acceptance.{exactly-accepted}
 
 -- the calls apart from activating

@@ -1,5 +1,5 @@
 -- The table after reading, by the division alone. Assumes nothing.
-use mathlib.Core.Path.{_≡_, refl, sym, ap, _∙_}
+use mathlib.Core.Path.{_≡_, refl, ap, _∙_}
 use mathlib.Core.Bool.{Bool, true, false, cond}
 use mathlib.Core.Logic.{_↔_}
 use mathlib.Core.List.{List, [], _∷_, _++_, map}
@@ -11,6 +11,7 @@ use lib.Dec.{eqb, ltb}
 use lib.ListN.{length, drop}
 use lib.Seq.{sets, sets-eq}
 use Rattle.division.specs.Division.{Division, Divides}
+use Rattle.pool.proofs.Judged.{as-read}
 use Rattle.pool.specs.Answer.{Answer, answer}
 use Rattle.pool.specs.Reading.{Entry, readOf, scanOf, entriesIn}
 use Rattle.working_table.specs.declared.Record.{Record}
@@ -21,9 +22,6 @@ use Rattle.claims.proofs.Sorting.{listed-length}
 mapped : (es : List Entry) → length (map recordOf es) ≡ length es
 mapped [] = refl
 mapped (e ∷ es) = ap suc (mapped es)
-
-as-read : (a : Answer) → a .number ≡ 0 → a ≡ answer 0 (a .value)
-as-read a n = rw (← n)
 
 module _ (p : List ℕ) (table : List Record)
     (reads : (n : ℕ) → (readOf p (length table) ≡ answer 0 n) ↔ (Sized p × ((d : Divides p) × (length (d .parts) ≡ n) × (n ≤ length table))))

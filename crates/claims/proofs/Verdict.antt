@@ -8,7 +8,8 @@ use native.Mathlib.Decide.{decLe}
 use borrow.Author.Tests.{lt-ltb, le-ltb}
 use lib.Dec.{ltb}
 use lib.ListN.{length}
-use Rattle.division.specs.Division.{joined, Division, Divides}
+use Rattle.wire.specs.Parts.{joined}
+use Rattle.division.specs.Division.{Division, Divides}
 use Rattle.pool.specs.Answer.{Answer, answer}
 use Rattle.pool.specs.Reading.{records, scanOf, entriesIn, readOf}
 use Rattle.pool.proofs.Judged.{read-empty, read-long, read-walk}

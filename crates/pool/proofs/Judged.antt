@@ -67,6 +67,10 @@ pub walk-refused : (room : ℕ) (s : Scan) (w : Outcome) → NoCount w → answe
 walk-refused room (refused c at) w k e = e
 walk-refused room (records es) w k e = absurd (no-count w k (ap (λ (a : Answer). a .number) e))
 
+-- an answer with number 0 is a count
+pub as-read : (a : Answer) → a .number ≡ 0 → a ≡ answer 0 (a .value)
+as-read a n = rw (← n)
+
 -- a refusal that a test picks was not picked where a count is answered
 picked : (b : Bool) (x y : Answer) (n : ℕ) → (x .number ≡ 0 → ⊥) → answer 0 n ≡ cond b x y → (b ≡ false) × (answer 0 n ≡ y)
 picked true x y n never e = absurd (never (sym (ap (λ (a : Answer). a .number) e)))

@@ -1,6 +1,6 @@
 -- `charactersIn` is the grammar: it counts what the grammar derives, and nothing else. Assumes nothing.
 use mathlib.Core.Path.{_≡_, refl, sym, ap, subst, _∙_}
-use mathlib.Core.Bool.{Bool, true, false, cond}
+use mathlib.Core.Bool.{Bool, true, false, cond, and-false}
 use mathlib.Core.List.{List, [], _∷_, _++_}
 use Prim.Native.Nat.{ℕ, zero, suc, _+_, _-_, _<_, _≤_}
 use native.Mathlib.Nat.{le-trans, le-refl, le-of-suc-le-suc, le-suc, not-suc-le-zero, lt-of-lt-of-le}
@@ -10,7 +10,6 @@ use lib.Dec.{T, leb, ltb, eqb, leb→le, lit<}
 use lib.ListN.{length, getD}
 use lib.Ieee.Fits.{and-l, and-r}
 use lib.Ieee.Bits.{is-true}
-use Rattle.text.proofs.Widths.{and-false}
 use Rattle.text.specs.Octets.{within, row2, row3, row4, width}
 use Rattle.text.specs.Characters.{charactersIn, plus}
 use Rattle.text.specs.Grammar.{Three, e0, e1, ed, ee, Four, f0, f1, f4, Char, one, two, three, four, Text, none, more}
