@@ -16,25 +16,29 @@ use Rattle.messages.specs.Layout.{carriesValue}
 unfoldable pub elementFor : List ℕ → List Entry → ℕ → ℕ
 elementFor p es element = firstOf (numberKey p es) element (length es)
 
--- 0x04: the process data or property of a DDI, by its record's number from 1, 0 for none. Only the list of the element that
--- starts at a place is looked at, and its first entry with the DDI counts
+-- the first entry that names process data or a property of a DDI, in the list of the device element that starts at a place: by its
+-- number from 1, 0 for none
 unfoldable pub entryFor : List ℕ → List Entry → ℕ → ℕ → ℕ
 entryFor p es at ddi = firstOf (λ (m : ℕ). tagOf p es (named es (entryOf p at m))) (suc ddi) (elementOf p at .entries)
 
+-- the record that such an entry names, by its number from 1; 0 for none
 abbrev pub namedBy : List ℕ → List Entry → ℕ → ℕ → ℕ
 namedBy p es at zero = 0
 namedBy p es at (suc m) = named es (entryOf p at m)
 
+-- 0x04: the object of a command for a DDI, which is the record that this first entry names; 0 for none
 abbrev pub objectFor : List ℕ → List Entry → ℕ → ℕ → ℕ
 objectFor p es at ddi = namedBy p es at (entryFor p es at ddi)
 
--- the two bytes of flags, by the number of the object's kind and its start: process data has them, a property's are all clear
+-- the property bits of an object, by the number of its kind and its start: process data has them, and of a property none is set
 abbrev pub propertiesIn : List ℕ → ℕ → ℕ → ℕ
 propertiesIn p kind at = cond (eqb kind 3) (processDataOf p at .properties) 0
 
+-- the trigger bits of an object, likewise
 abbrev pub triggersIn : List ℕ → ℕ → ℕ → ℕ
 triggersIn p kind at = cond (eqb kind 3) (processDataOf p at .triggers) 0
 
+-- whether a bit of a number is 0; bit 0 is the lowest
 abbrev pub isClear : ℕ → ℕ → Bool
 isClear bit x = eqb (x / 2 ^ bit % 2) 0
 
