@@ -106,9 +106,10 @@ BENDS = {
     ("working_table", "filling"): ("right", 0, [], "left", 0),
     ("working_table", "pool"): ("bottom", 0, [], "right", 0),
     ("naming", "views"): ("bottom", -30, [12.5], "top", 30),
+    ("text", "wire"): ("left", 0, [380], "left", -12),
     ("views", "records"): ("bottom", 0, [], "left", 0),
-    ("messages", "wire"): ("bottom", 0, [], "left", -9),
-    ("time_log", "wire"): ("bottom", 0, [], "left", 9),
+    ("messages", "wire"): ("bottom", 0, [], "left", 0),
+    ("time_log", "wire"): ("bottom", 0, [], "left", 12),
 }
 
 STYLE = """

@@ -1,6 +1,5 @@
 -- The book keeps a pool exactly where it is accepted. Assumes nothing.
 use mathlib.Core.Path.{_≡_, refl, sym, ap, ap₂, _∙_}
-use mathlib.Core.Bool.{Bool, true, false}
 use mathlib.Core.Logic.{_↔_}
 use mathlib.Core.List.{List, [], _∷_, List·Memᴰ, List·Memᴰ·head, List·Memᴰ·not-nil}
 use Prim.Native.Nat.{ℕ, zero, suc, _≤_, _<_}
@@ -8,9 +7,11 @@ use native.Mathlib.Omega.{arith}
 use borrow.Author.Tests.{eqb-true, eqb-false}
 use lib.Dec.{eqb}
 use lib.ListN.{length}
+use Rattle.wire.proofs.Either.{by-case}
 use Rattle.division.specs.Division.{Division, Divides}
+use Rattle.pool.proofs.Judged.{as-read}
 use Rattle.pool.specs.Answer.{Answer, answer}
-use Rattle.pool.specs.Reading.{readOf, pick}
+use Rattle.pool.specs.Reading.{readOf}
 use Rattle.faults.specs.Faults.{Fault, fault}
 use Rattle.rules.specs.Breach.{Breach}
 use Rattle.rules.specs.Table.{breachesOf}
@@ -22,7 +23,6 @@ use Rattle.claims.proofs.Checking.{checking}
 use Rattle.activation.proofs.Settled.{check-number}
 use Rattle.book.specs.Book.{Book, checked}
 use Rattle.book.specs.Claim.{Accepted}
-use Rattle.book.proofs.Steps.{by-case}
 
 -- the book takes a pool exactly if checking says 0 and 0
 taken : (b : Book) (a : Answer) → checked b a .told .number ≡ 0 → a ≡ answer 0 0
@@ -59,9 +59,6 @@ module _ (p : List ℕ) (room : ℕ) (sized : Sized p) where
         holds = fits;
         clean = λ number rule item h. List·Memᴰ·not-nil (rw none at (c .exact (fault number rule item) .1 h));
       }
-    where
-      as-read : (a : Answer) → a .number ≡ 0 → a ≡ answer 0 (a .value)
-      as-read a n = rw (← n)
 
   of-accepted : Accepted p room → checkOf p room ≡ answer 0 0
   of-accepted a =

@@ -1,6 +1,6 @@
 -- What the definitions say of a call can be answered by a step of Rattle. Assumes nothing.
 use mathlib.Core.Path.{_≡_, refl, sym, ap, _∙_}
-use mathlib.Core.Bool.{Bool, true, false, not, _||_}
+use mathlib.Core.Bool.{Bool, true, false, cond, not, _||_}
 use mathlib.Core.List.{List, [], _∷_}
 use Prim.Native.Nat.{ℕ, zero, suc, _-_, _≤_, _<_}
 use native.Mathlib.Omega.{arith}
@@ -8,7 +8,7 @@ use borrow.Author.Tests.{not-true, not-false, eqb-true}
 use lib.Dec.{eqb, ltb}
 use lib.ListN.{length, take}
 use Rattle.pool.specs.Answer.{Answer, answer}
-use Rattle.pool.specs.Reading.{Scan, records, refused, Cause, unmarked, cut, over, counted, pick, scanOf, readOf}
+use Rattle.pool.specs.Reading.{Scan, records, refused, Cause, unmarked, cut, over, counted, scanOf, readOf}
 use Rattle.pool.proofs.Judged.{read-walk}
 use Rattle.rules.specs.Table.{breachesOf}
 use Rattle.checker.specs.Checking.{checkOf}
@@ -27,7 +27,7 @@ pub record Real (t : S.Told) : Type 0 where
   pub step : Step
   pub tells : S.stepOf step ≡ t
 
-either : (b : Bool) {x y : S.Told} → (b ≡ true → Real x) → (b ≡ false → Real y) → Real (S.choose b x y)
+either : (b : Bool) {x y : S.Told} → (b ≡ true → Real x) → (b ≡ false → Real y) → Real (cond b x y)
 either true f g = f refl
 either false f g = g refl
 
@@ -46,12 +46,12 @@ shape-counted room (refused cut at) = shape-cut at
 shape-counted room (refused over at) = shape-over at
 shape-counted room (records es) = go (ltb 8192 (length es)) (ltb room (length es))
   where
-    go : (a b : Bool) → Shape (pick a (answer 6 0) (pick b (answer 7 (length es)) (answer 0 (length es))))
+    go : (a b : Bool) → Shape (cond a (answer 6 0) (cond b (answer 7 (length es)) (answer 0 (length es))))
     go true b = shape-many
     go false true = shape-short (length es)
     go false false = shape-read (length es)
 
-shape-picked : (n : ℕ) {a : Answer} → Shape a → Shape (pick (eqb (a .number) 0) (answer 0 n) a)
+shape-picked : (n : ℕ) {a : Answer} → Shape a → Shape (cond (eqb (a .number) 0) (answer 0 n) a)
 shape-picked n (shape-read m) = shape-read n
 shape-picked n (shape-mark at) = shape-mark at
 shape-picked n (shape-cut at) = shape-cut at

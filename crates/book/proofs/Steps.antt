@@ -1,6 +1,6 @@
 -- Each call does as the book says. Assumes nothing.
-use mathlib.Core.Path.{_≡_, refl, sym, ap, _∙_, subst}
-use mathlib.Core.Bool.{Bool, true, false, not, cond, _&&_, _||_, true≢false}
+use mathlib.Core.Path.{_≡_, refl, sym, ap, _∙_}
+use mathlib.Core.Bool.{true, false, cond, _||_, true≢false}
 use mathlib.Core.List.{List, [], _∷_, _++_, append-assoc}
 use Prim.Native.Nat.{ℕ, _+_, _-_, _≤_, _<_}
 use native.Mathlib.Omega.{arith}
@@ -17,15 +17,11 @@ use Rattle.session.specs.Answers.{Reply, replyOf}
 use Rattle.session.specs.Calls as S
 use Rattle.activation.specs.Activating as Act
 use Rattle.session.specs.declared.Session.{Session}
-use Rattle.wire.proofs.Either.{neither}
+use Rattle.wire.proofs.Either.{neither, by-case}
 use Rattle.book.specs.Book.{Said, Book, blank, Noted, noted, note, over, checked, firstIn, Call, offer, transfer, activate, deactivate, delete, lost}
 use Rattle.book.specs.Run.{Functions, sessionOf, Starts}
 use Rattle.book.proofs.Good.{Good, possible, is-one, is-zero, blank-good, over-good}
 use Rattle.book.proofs.Follows.{saidIn, toldBy, stagingBy, keptBy, tableBy, Did}
-
-pub by-case : {P : Type 0} (t : Bool) → (t ≡ true → P) → (t ≡ false → P) → P
-by-case true f g = f refl
-by-case false f g = g refl
 
 -- what a call tells and returns is what the book notes, and the book stays good
 pub record Ok (ls lk : ℕ) (t : S.Told) (m : Noted) (st k : List ℕ) : Type 0 where
@@ -135,7 +131,7 @@ module _ (ls lk : ℕ) (b : Book) (st k : List ℕ) (g : Good ls lk b st k) wher
   -- what follows from what checking says
   decided-ok : b .offered ≡ true → length (b .arrived) ≡ b .announced → (a : Answer)
       → Ok ls lk (Act.decided (record { announced = b .announced; received = length (b .arrived); kept = length (b .kept); stage = 1; active = cond (b .active) 1 0 }) (b .arrived) a)
-      (checked b a) st (S.choose (Act.accepted a) (sets k 0 (b .arrived)) k)
+      (checked b a) st (cond (Act.accepted a) (sets k 0 (b .arrived)) k)
   decided-ok o q a =
       by-case (eqb (a .number) 0)
       (λ e0.

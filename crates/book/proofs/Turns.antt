@@ -1,6 +1,6 @@
 -- What one more call does to the kept area and to the pool kept before. Assumes nothing.
 use mathlib.Core.Path.{_≡_, refl, sym, ap, _∙_}
-use mathlib.Core.Bool.{Bool, true, false, not, _||_, true≢false}
+use mathlib.Core.Bool.{true, false, cond, _||_, true≢false}
 use mathlib.Core.Logic.{_↔_, _⊎_, inl, inr, ⊎-elim}
 use mathlib.Core.List.{List, [], _∷_, _++_, append-assoc}
 use Prim.Native.Nat.{ℕ, _+_, _-_, _≤_, _<_}
@@ -10,6 +10,7 @@ use borrow.Author.Tests.{ltb-true, ltb-false, le-ltb, eqb-true, ne-eqb}
 use lib.Dec.{eqb, ltb}
 use lib.ListN.{length, take, drop}
 use lib.Seq.{sets, sets-eq}
+use Rattle.wire.proofs.Either.{by-case}
 use Rattle.pool.specs.Answer.{Answer}
 use Rattle.working_table.specs.declared.Record.{Record}
 use Rattle.faults.specs.Faults.{fault}
@@ -24,7 +25,6 @@ use Rattle.book.specs.Run.{Functions, sessionOf}
 use Rattle.book.specs.Claim.{Accepted, Turn, won, deleted, stays}
 use Rattle.book.proofs.Good.{Good, possible, is-one}
 use Rattle.book.proofs.Follows.{keptBy, tableBy, Did}
-use Rattle.book.proofs.Steps.{by-case}
 use Rattle.book.proofs.Acceptance.{exactly-accepted}
 
 -- the calls apart from activating
@@ -63,7 +63,7 @@ module _ (ls lk : ℕ) (b : Book) (st k : List ℕ) (g : Good ls lk b st k) wher
   deactivate-kept = by-case (b .active) (λ a. simp a) (λ a. simp a)
 
   checked-turn : (t : List Record) → b .offered ≡ true → length (b .arrived) ≤ length k → (a : Answer)
-      → Turn b (checked b a .book) k (activate t) (checked b a .told) (S.choose (Act.accepted a) (sets k 0 (b .arrived)) k)
+      → Turn b (checked b a .book) k (activate t) (checked b a .told) (cond (Act.accepted a) (sets k 0 (b .arrived)) k)
   checked-turn t o room a =
       by-case (eqb (a .number) 0)
       (λ e0. by-case (eqb (a .value) 0)
@@ -90,7 +90,7 @@ module _ (ls lk : ℕ) (b : Book) (st k : List ℕ) (g : Good ls lk b st k) wher
       (⊎-elim (λ (o : b .offered ≡ false). rw o) (λ (e : ltb (length (b .arrived)) (b .announced) ≡ true). by-case (b .offered) (λ o. rw (o, e)) (λ o. rw o)))
 
   reached : (room : ℕ) → b .offered ≡ true → ltb (length (b .arrived)) (b .announced) ≡ false
-      → Act.keptAfter (sessionOf b) st k room ≡ S.choose (Act.accepted (checkOf (b .arrived) room)) (sets k 0 (b .arrived)) k
+      → Act.keptAfter (sessionOf b) st k room ≡ cond (Act.accepted (checkOf (b .arrived) room)) (sets k 0 (b .arrived)) k
   unfolding Act.keptAfter Act.isChecked Act.keptSettled
   reached room o e1 =
       let q : length (b .arrived) ≡ b .announced = omega (arith, g .part, ltb-false (length (b .arrived)) (b .announced) e1) in

@@ -2,7 +2,7 @@
 -- only their lengths; of the session's definitions it has none, and of all others only checking and the table after reading.
 -- Definitions only.
 use Prim.Native.Nat.{ℕ, _-_}
-use mathlib.Core.Bool.{Bool, true, false, not, _&&_, _||_}
+use mathlib.Core.Bool.{Bool, true, false, cond, not, _&&_, _||_}
 use mathlib.Core.List.{List, [], _∷_, _++_}
 use lib.Dec.{eqb, ltb}
 use lib.ListN.{length}
@@ -57,11 +57,10 @@ pub record Noted : Type 0 where
 abbrev pub note : Book → ℕ → Noted
 note b n = record { book = b; told = said n 0 }
 
--- one of two, by a test
+-- one of two, by a test: `cond`, in words
 infixr 10 if_then_else_
 abbrev pub if_then_else_ {ℓ} : {A : Type ℓ} → Bool → A → A → A
-if true then a else b = a
-if false then a else b = b
+if t then a else b = cond t a b
 
 -- the first fault of a list, zeros where there is none
 abbrev pub firstIn : List Fault → Fault

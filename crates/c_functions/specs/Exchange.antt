@@ -18,17 +18,22 @@ use Rattle.terminal.proofs.exchange.lachsbrille_message_write_value as value-c
 use Rattle.terminal.proofs.exchange.lachsbrille_message_write_acknowledge as acknowledge-c
 use Rattle.terminal.proofs.display.lachsbrille_displayed as displayed-c
 
--- what each contract says: its own text, which `refl` holds to the whole of the contract, so none asks anything of its caller and no
--- clause can be left out
+-- What each contract says is its own text. `refl` holds it to the whole of the contract: none asks anything of its caller, and no clause
+-- can be left out.
+
+-- what the contract of `lachsbrille_message_read` says
 abbrev pub message-says : Says message-c.ended (λ M. message-c.clauses)
 message-says = record { Learnt = _; exact = λ w. refl }
 
+-- what the contract of `lachsbrille_message_write_value` says
 abbrev pub value-says : Says value-c.ended (λ M. value-c.clauses)
 value-says = record { Learnt = _; exact = λ w. refl }
 
+-- what the contract of `lachsbrille_message_write_acknowledge` says
 abbrev pub acknowledge-says : Says acknowledge-c.ended (λ M. acknowledge-c.clauses)
 acknowledge-says = record { Learnt = _; exact = λ w. refl }
 
+-- what the contract of `lachsbrille_displayed` says
 abbrev pub displayed-says : Says displayed-c.ended (λ M. displayed-c.clauses)
 displayed-says = record { Learnt = _; exact = λ w. refl }
 

@@ -23,17 +23,22 @@ use Rattle.terminal.proofs.logs.lachsbrille_log_read_record as record-c
 use Rattle.terminal.proofs.logs.lachsbrille_log_write_record as written-c
 use Rattle.terminal.proofs.logs.lachsbrille_log_read as log-c
 
--- what each contract says: its own text, which `refl` holds to the whole of the contract, so none asks anything of its caller and no
--- clause can be left out
+-- What each contract says is its own text. `refl` holds it to the whole of the contract: none asks anything of its caller, and no clause
+-- can be left out.
+
+-- what the contract of `lachsbrille_log_optional_fields` says
 abbrev pub fields-says : Says fields-c.ended (λ M. fields-c.clauses)
 fields-says = record { Learnt = _; exact = λ w. refl }
 
+-- what the contract of `lachsbrille_log_read_record` says
 abbrev pub record-says : Says record-c.ended (λ M. record-c.clauses)
 record-says = record { Learnt = _; exact = λ w. refl }
 
+-- what the contract of `lachsbrille_log_write_record` says
 abbrev pub written-says : Says written-c.ended (λ M. written-c.clauses)
 written-says = record { Learnt = _; exact = λ w. refl }
 
+-- what the contract of `lachsbrille_log_read` says
 abbrev pub log-says : Says log-c.ended (λ M. log-c.clauses)
 log-says = record { Learnt = _; exact = λ w. refl }
 

@@ -19,26 +19,34 @@ use Rattle.terminal.proofs.objects.lachsbrille_read_process_data as data-c
 use Rattle.terminal.proofs.objects.lachsbrille_read_property as property-c
 use Rattle.terminal.proofs.objects.lachsbrille_read_presentation as presentation-c
 
--- what each contract says: its own text, which `refl` holds to the whole of the contract, so none asks anything of its caller and no
--- clause can be left out
+-- What each contract says is its own text. `refl` holds it to the whole of the contract: none asks anything of its caller, and no clause
+-- can be left out.
+
+-- what the contract of `lachsbrille_version` says
 abbrev pub version-says : Says version-c.ended (λ M. version-c.clauses)
 version-says = record { Learnt = _; exact = λ w. refl }
 
+-- what the contract of `lachsbrille_read_device` says
 abbrev pub device-says : Says device-c.ended (λ M. device-c.clauses)
 device-says = record { Learnt = _; exact = λ w. refl }
 
+-- what the contract of `lachsbrille_read_element` says
 abbrev pub element-says : Says element-c.ended (λ M. element-c.clauses)
 element-says = record { Learnt = _; exact = λ w. refl }
 
+-- what the contract of `lachsbrille_read_entry` says
 abbrev pub entry-says : Says entry-c.ended (λ M. entry-c.clauses)
 entry-says = record { Learnt = _; exact = λ w. refl }
 
+-- what the contract of `lachsbrille_read_process_data` says
 abbrev pub data-says : Says data-c.ended (λ M. data-c.clauses)
 data-says = record { Learnt = _; exact = λ w. refl }
 
+-- what the contract of `lachsbrille_read_property` says
 abbrev pub property-says : Says property-c.ended (λ M. property-c.clauses)
 property-says = record { Learnt = _; exact = λ w. refl }
 
+-- what the contract of `lachsbrille_read_presentation` says
 abbrev pub presentation-says : Says presentation-c.ended (λ M. presentation-c.clauses)
 presentation-says = record { Learnt = _; exact = λ w. refl }
 

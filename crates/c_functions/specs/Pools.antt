@@ -28,23 +28,30 @@ use Rattle.terminal.proofs.lachsbrille_text as text-c
 use Rattle.terminal.proofs.lachsbrille_labels as labels-c
 use Rattle.terminal.proofs.exchange.lachsbrille_judge as judge-c
 
--- what each contract says: its own text, which `refl` holds to the whole of the contract, so none asks anything of its caller and no
--- clause can be left out
+-- What each contract says is its own text. `refl` holds it to the whole of the contract: none asks anything of its caller, and no clause
+-- can be left out.
+
+-- what the contract of `lachsbrille_read` says
 abbrev pub read-says : Says read-c.ended (λ M. read-c.clauses)
 read-says = record { Learnt = _; exact = λ w. refl }
 
+-- what the contract of `lachsbrille_check` says
 abbrev pub check-says : Says check-c.ended (λ M. check-c.clauses)
 check-says = record { Learnt = _; exact = λ w. refl }
 
+-- what the contract of `lachsbrille_text_is_sound` says
 abbrev pub sound-says : Says sound-c.ended (λ M. sound-c.clauses)
 sound-says = record { Learnt = _; exact = λ w. refl }
 
+-- what the contract of `lachsbrille_text` says
 abbrev pub text-says : Says text-c.ended (λ M. text-c.clauses)
 text-says = record { Learnt = _; exact = λ w. refl }
 
+-- what the contract of `lachsbrille_labels` says
 abbrev pub labels-says : Says labels-c.ended (λ M. labels-c.clauses)
 labels-says = record { Learnt = _; exact = λ w. refl }
 
+-- what the contract of `lachsbrille_judge` says
 abbrev pub judge-says : Says judge-c.ended (λ M. judge-c.clauses)
 judge-says = record { Learnt = _; exact = λ w. refl }
 

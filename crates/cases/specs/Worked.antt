@@ -16,6 +16,7 @@ pub record Line : Type 0 where
   pub call : Call
   pub told : Said
 
+-- a call that is told this
 abbrev gets : Call → Said → Line
 gets c q = record { call = c; told = q }
 

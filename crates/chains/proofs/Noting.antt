@@ -20,7 +20,7 @@ use Rattle.naming.proofs.First.{first-other, first-kept, first-here}
 use Rattle.naming.proofs.Chained.{opens-first}
 use Rattle.rules.specs.Table.{repeats, elementKey}
 use Rattle.rules.proofs.Repeats.{element-key}
-use Rattle.chains.specs.Noted.{Noted, Marked}
+use Rattle.chains.specs.Noted.{Noted, HitsMarked}
 
 -- a list with one number marked more
 abbrev Adds : List ℕ → ℕ → List ℕ → Type 0
@@ -84,13 +84,13 @@ module _ (bound : ℕ) (p : List ℕ) (es : List Entry) (i : ℕ) (numbers : Lis
 -- ---- marks under records
 
 module _ (test : ℕ → Bool) where
-  pub marked-start : (marks : List ℕ) → Blank marks → Marked test 0 marks
+  pub marked-start : (marks : List ℕ) → Blank marks → HitsMarked test 0 marks
   marked-start marks blank j l = rw (le-ltb j 0 (omega arith)) (blank-bits marks blank j)
 
-  pub marked-is : (n : ℕ) (marks : List ℕ) → Marked test n marks → (j : ℕ) → j < n → j < 8 * length marks → bitAt marks j ≡ test j
+  pub marked-is : (n : ℕ) (marks : List ℕ) → HitsMarked test n marks → (j : ℕ) → j < n → j < 8 * length marks → bitAt marks j ≡ test j
   marked-is n marks marked j l b = rw (lt-ltb j n l) at (marked j b)
 
-  module _ (i : ℕ) (marks : List ℕ) (marked : Marked test i marks) where
+  module _ (i : ℕ) (marks : List ℕ) (marked : HitsMarked test i marks) where
     -- what a number more says of each: below it as before, of it what the test says
     one-more : (j : ℕ) → (j ≡ i → ⊥) → ltb j (i + 1) ≡ ltb j i
     one-more j d = go (decLt j i)
@@ -99,14 +99,14 @@ module _ (test : ℕ → Bool) where
         go (yes l) = lt-ltb j (i + 1) (omega arith) ∙ sym (lt-ltb j i l)
         go (no l) = le-ltb j (i + 1) (omega arith) ∙ sym (le-ltb j i (omega arith))
 
-    pub marked-pass : test i ≡ false → Marked test (i + 1) marks
+    pub marked-pass : test i ≡ false → HitsMarked test (i + 1) marks
     marked-pass t j l = go (ℕ-discrete j i)
       where
         go : Dec (j ≡ i) → bitAt marks j ≡ (ltb j (i + 1) && test j)
         go (yes e) = marked j l ∙ rw (e, le-ltb i i (omega arith), lt-ltb i (i + 1) (omega arith)) (sym t)
         go (no d) = marked j l ∙ ap (λ (b : Bool). b && test j) (sym (one-more j d))
 
-    pub marked-hit : test i ≡ true → (after : List ℕ) → length after ≡ length marks → Adds marks i after → Marked test (i + 1) after
+    pub marked-hit : test i ≡ true → (after : List ℕ) → length after ≡ length marks → Adds marks i after → HitsMarked test (i + 1) after
     marked-hit t after same adds j l = go (ℕ-discrete j i)
       where
         inside : j < 8 * length marks

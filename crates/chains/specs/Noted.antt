@@ -13,5 +13,5 @@ abbrev pub Noted : ℕ → (ℕ → ℕ) → ℕ → List ℕ → Type 0
 Noted bound key n numbers = (x : ℕ) → x < bound → bitAt numbers x ≡ not (eqb (firstOf key (suc x) n) 0)
 
 -- of the numbers in a list of marks those below n are marked that a test hits, and no other
-abbrev pub Marked : (ℕ → Bool) → ℕ → List ℕ → Type 0
-Marked test n marks = (j : ℕ) → j < 8 * length marks → bitAt marks j ≡ (ltb j n && test j)
+abbrev pub HitsMarked : (ℕ → Bool) → ℕ → List ℕ → Type 0
+HitsMarked test n marks = (j : ℕ) → j < 8 * length marks → bitAt marks j ≡ (ltb j n && test j)

@@ -1,11 +1,11 @@
 -- Checking a pool: document 01, the paragraph on checking behind the rule table. Definitions only.
 use Prim.Native.Nat.{ℕ}
-use mathlib.Core.Bool.{Bool, true, false, cond}
+use mathlib.Core.Bool.{cond}
 use mathlib.Core.List.{List}
 use lib.Dec.{eqb}
 use lib.ListN.{length}
 use Rattle.pool.specs.Answer.{Answer, answer}
-use Rattle.pool.specs.Reading.{readOf, pick}
+use Rattle.pool.specs.Reading.{readOf}
 use Rattle.faults.specs.Faults.{written}
 use Rattle.rules.specs.Table.{breachesOf}
 use Rattle.checker.specs.declared.Verdict.{Verdict}
@@ -35,17 +35,12 @@ recordsIn (TableShort needed) = 0
 
 -- checking refuses as reading does, or gives the length of the breach list; room is the number of entries that the table has
 unfoldable pub checkOf : List ℕ → ℕ → Answer
-checkOf p room = pick (eqb (readOf p room .number) 0) (answer 0 (length (breachesOf p))) (readOf p room)
+checkOf p room = cond (eqb (readOf p room .number) 0) (answer 0 (length (breachesOf p))) (readOf p room)
 
 -- how many records reading finds, 0 where it refuses
 unfoldable pub countOf : List ℕ → ℕ → ℕ
 countOf p room = cond (eqb (readOf p room .number) 0) (readOf p room .value) 0
 
--- one of two lists, by a test
-abbrev pub pickList : Bool → List ℕ → List ℕ → List ℕ
-pickList true a b = a
-pickList false a b = b
-
 -- the fault buffer after checking: the first faults where the pool is read, else unchanged
 unfoldable pub faultsAfter : List ℕ → ℕ → List ℕ → List ℕ
-faultsAfter p room faults = pickList (eqb (readOf p room .number) 0) (written faults (breachesOf p)) faults
+faultsAfter p room faults = cond (eqb (readOf p room .number) 0) (written faults (breachesOf p)) faults

@@ -1,6 +1,6 @@
 -- The table after reading, by the division alone. Assumes nothing.
-use mathlib.Core.Path.{_≡_, refl, sym, ap, _∙_}
-use mathlib.Core.Bool.{Bool, true, false}
+use mathlib.Core.Path.{_≡_, refl, ap, _∙_}
+use mathlib.Core.Bool.{Bool, true, false, cond}
 use mathlib.Core.Logic.{_↔_}
 use mathlib.Core.List.{List, [], _∷_, _++_, map}
 use Prim.Native.Nat.{ℕ, suc, _+_, _≤_, _<_}
@@ -11,10 +11,11 @@ use lib.Dec.{eqb, ltb}
 use lib.ListN.{length, drop}
 use lib.Seq.{sets, sets-eq}
 use Rattle.division.specs.Division.{Division, Divides}
+use Rattle.pool.proofs.Judged.{as-read}
 use Rattle.pool.specs.Answer.{Answer, answer}
 use Rattle.pool.specs.Reading.{Entry, readOf, scanOf, entriesIn}
 use Rattle.working_table.specs.declared.Record.{Record}
-use Rattle.working_table.specs.Table.{recordOf, pickRecords, recordsAfter}
+use Rattle.working_table.specs.Table.{recordOf, recordsAfter}
 use Rattle.claims.specs.Reads.{listed, Sized, Filled}
 use Rattle.claims.proofs.Sorting.{listed-length}
 
@@ -22,14 +23,11 @@ mapped : (es : List Entry) → length (map recordOf es) ≡ length es
 mapped [] = refl
 mapped (e ∷ es) = ap suc (mapped es)
 
-as-read : (a : Answer) → a .number ≡ 0 → a ≡ answer 0 (a .value)
-as-read a n = rw (← n)
-
 module _ (p : List ℕ) (table : List Record)
     (reads : (n : ℕ) → (readOf p (length table) ≡ answer 0 n) ↔ (Sized p × ((d : Divides p) × (length (d .parts) ≡ n) × (n ≤ length table))))
     (entries : (rs : List (List ℕ)) (d : Division p rs) → entriesIn (scanOf p) ≡ listed rs (d .whole) 0) where
   as-it-was : ((d : Divides p) → Sized p → length (d .parts) ≤ length table → ⊥) → (t : Bool) → eqb (readOf p (length table) .number) 0 ≡ t
-      → pickRecords t (sets table 0 (map recordOf (entriesIn (scanOf p)))) table ≡ table
+      → cond t (sets table 0 (map recordOf (entriesIn (scanOf p)))) table ≡ table
   as-it-was none false h = refl
   as-it-was none true h =
       let r = reads (readOf p (length table) .value) .0 (as-read (readOf p (length table)) (eqb-true (readOf p (length table) .number) 0 h)) in

@@ -6,13 +6,13 @@ use native.Mathlib.Omega.{arith}
 use native.Mathlib.Nat.{add-zero}
 use lib.ListN.{length, getD, take, drop, length-append}
 use lib.Seq.{drop-append-seam, take-append-seam, getD-append-seam, drop-drop}
+use Rattle.wire.specs.Parts.{joined}
 use Rattle.wire.specs.Bytes.{leOf, numberAt, signedOf}
 use Rattle.records.specs.Layout.{Field, fixed, text, entries, layout}
 use Rattle.records.specs.Places.{behind, behindAll, fieldAt, idOf}
 use Rattle.records.specs.declared.Kind.{Kind}
 use Rattle.records.specs.declared.Kind.the-variants.{Dvc, Det, Dpd, Dpt, Dvp}
 use Rattle.views.specs.Fields.{textAt, bytesAt, partOf, deviceOf, elementOf, entryOf, processDataOf, propertyOf, presentationOf}
-use Rattle.division.specs.Division.{joined}
 use Rattle.division.specs.Written.{sized, Written, dvc, det, dpd, dpt, dvp}
 use Rattle.claims.specs.Parts.{Shows, FieldsAreParts}
 

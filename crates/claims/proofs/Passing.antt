@@ -5,6 +5,7 @@ use Prim.Native.Nat.{ℕ, zero, suc, _+_, _-_, _≤_, _<_}
 use native.Mathlib.Omega.{arith}
 use lib.ListN.{length, take, drop, length-append, length-drop}
 use lib.Seq.{take-at, take-append-le, drop-append-le, drop-append-add}
+use Rattle.wire.specs.Parts.{joined}
 use Rattle.wire.specs.Bytes.{leOf, numberAt}
 use Rattle.records.specs.Layout.{mark, markOf, kindNumber, three}
 use Rattle.records.specs.Extents.{extentOf}
@@ -13,7 +14,7 @@ use Rattle.records.specs.declared.Mark.the-variants.{Of}
 use Rattle.records.specs.declared.Extent.{Extent}
 use Rattle.records.specs.declared.Extent.the-variants.{NoMark, Cut, LengthOver}
 use Rattle.division.specs.Whole.{Whole}
-use Rattle.division.specs.Division.{AllWhole, joined}
+use Rattle.division.specs.Division.{AllWhole}
 use Rattle.division.proofs.Marks.{mark-length, mark-of, three-behind}
 use Rattle.division.proofs.Records.{whole-ends, unmarked-refused, cut-refused, over-refused}
 use Rattle.division.proofs.Unique.{shortest}

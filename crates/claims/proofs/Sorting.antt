@@ -4,8 +4,9 @@ use mathlib.Core.List.{List, [], _∷_, _++_, append-assoc}
 use Prim.Native.Nat.{ℕ, zero, suc, _+_, _*_, _≤_}
 use native.Mathlib.Omega.{arith}
 use lib.ListN.{length, length-append}
+use Rattle.wire.specs.Parts.{joined}
 use Rattle.division.specs.Whole.{Whole}
-use Rattle.division.specs.Division.{AllWhole, joined, Division}
+use Rattle.division.specs.Division.{AllWhole, Division}
 use Rattle.division.proofs.Records.{Seen, begins, unmarked, short, over, seen}
 use Rattle.division.proofs.Unique.{shortest}
 use Rattle.claims.specs.Reads.{listed, Bad, Bad.unmarked as bad-mark, Bad.cut as bad-cut, Bad.over as bad-over, Earliest}

@@ -1,5 +1,6 @@
 -- What reading answers is what the division of the pool says. Assumes nothing.
 use mathlib.Core.Path.{_≡_, refl, ap, _∙_, subst}
+use mathlib.Core.Bool.{cond}
 use mathlib.Core.List.{List}
 use Prim.Native.Nat.{ℕ, zero, suc, _≤_, _<_}
 use native.Mathlib.Omega.{arith}
@@ -7,9 +8,10 @@ use native.Mathlib.Decide.{decLe}
 use borrow.Author.Tests.{lt-ltb, le-ltb}
 use lib.Dec.{ltb}
 use lib.ListN.{length}
-use Rattle.division.specs.Division.{joined, Division, Divides}
+use Rattle.wire.specs.Parts.{joined}
+use Rattle.division.specs.Division.{Division, Divides}
 use Rattle.pool.specs.Answer.{Answer, answer}
-use Rattle.pool.specs.Reading.{records, scanOf, entriesIn, pick, readOf}
+use Rattle.pool.specs.Reading.{records, scanOf, entriesIn, readOf}
 use Rattle.pool.proofs.Judged.{read-empty, read-long, read-walk}
 use Rattle.claims.specs.Reads.{listed, Bad, Bad.unmarked as bad-mark, Bad.cut as bad-cut, Bad.over as bad-over, Earliest, Sized, Reads}
 use Rattle.claims.proofs.Filled.{filled}
@@ -37,7 +39,7 @@ Means p room (suc (suc (suc (suc (suc (suc (suc (suc k)))))))) v = ⊥
 
 module _ (p : List ℕ) (room : ℕ) where
   -- ---- what each kind of pool is answered
-  read-parts : Sized p → (rs : List (List ℕ)) → Division p rs → readOf p room ≡ pick (ltb room (length rs)) (answer 7 (length rs)) (answer 0 (length rs))
+  read-parts : Sized p → (rs : List (List ℕ)) → Division p rs → readOf p room ≡ cond (ltb room (length rs)) (answer 7 (length rs)) (answer 0 (length rs))
   read-parts s rs d =
       let l : length p ≡ length (joined rs) = ap length (d .same) in
       let most : length rs ≤ 8192 = omega (arith, few rs (d .whole)) in

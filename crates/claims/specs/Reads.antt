@@ -5,11 +5,12 @@ use mathlib.Core.Path.{_≡_}
 use mathlib.Core.Logic.{_↔_}
 use mathlib.Core.List.{List, [], _∷_, _++_, map}
 use lib.ListN.{length, take, drop}
+use Rattle.wire.specs.Parts.{joined}
 use Rattle.wire.specs.Bytes.{leOf}
 use Rattle.records.specs.Layout.{kindNumber}
 use Rattle.division.specs.Whole.{Whole}
 use Rattle.division.specs.Bad.{Unmarked, CutShort, OverLimit}
-use Rattle.division.specs.Division.{AllWhole, joined, Division, Divides}
+use Rattle.division.specs.Division.{AllWhole, Division, Divides}
 use Rattle.pool.specs.Answer.{answer}
 use Rattle.pool.specs.Reading.{Entry, readOf, scanOf, entriesIn}
 use Rattle.working_table.specs.declared.Record.{Record}

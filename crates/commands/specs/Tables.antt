@@ -1,10 +1,11 @@
 -- The table after judging a command. Definitions only.
 use Prim.Native.Nat.{ℕ}
+use mathlib.Core.Bool.{cond}
 use mathlib.Core.List.{List}
 use lib.Dec.{ltb}
 use Rattle.working_table.specs.declared.Record.{Record}
-use Rattle.working_table.specs.Table.{pickRecords, recordsAfter}
+use Rattle.working_table.specs.Table.{recordsAfter}
 
 -- the pool is not looked at for 32, so the table stays; else it is filled as by reading
 unfoldable pub judgedRecords : List ℕ → List Record → ℕ → List Record
-judgedRecords p table element = pickRecords (ltb 4095 element) table (recordsAfter p table)
+judgedRecords p table element = cond (ltb 4095 element) table (recordsAfter p table)

@@ -1,6 +1,6 @@
 -- The three letters at a record's start. Assumes nothing.
 use mathlib.Core.Path.{_≡_, refl, sym, ap, ap₂, _∙_, subst}
-use mathlib.Core.Bool.{Bool, true, false, _&&_}
+use mathlib.Core.Bool.{Bool, true, false, cond}
 use mathlib.Core.List.{List, [], _∷_, _++_, append-assoc}
 use Prim.Native.Nat.{ℕ, _+_, _≤_}
 use native.Mathlib.Omega.{arith}
@@ -8,7 +8,8 @@ use borrow.Author.Tests.{eqb-true}
 use lib.Dec.{eqb}
 use lib.ListN.{length, take, length-append}
 use lib.Seq.{getD-append-seam, getD-append-add, take-at}
-use Rattle.records.specs.Layout.{mark, same, pickMark, markOf, three, layout}
+use Rattle.wire.proofs.Either.{both}
+use Rattle.records.specs.Layout.{mark, same, markOf, three, layout}
 use Rattle.records.specs.Extents.{extentOf, fieldsEnd, markedEnd}
 use Rattle.records.specs.declared.Kind.{Kind}
 use Rattle.records.specs.declared.Kind.the-variants.{Dvc, Det, Dpd, Dpt, Dvp}
@@ -26,16 +27,12 @@ mark-length Dpt = refl
 mark-length Dvp = refl
 
 -- ---- the kind that a mark stands for
-and-true : (a b : Bool) → (a && b) ≡ true → (a ≡ true) × (b ≡ true)
-and-true true b e = (refl, e)
-and-true false b e = let z : _≡_ {A = ℕ} 0 1 = cc in absurd (omega arith)
-
 same-equal : (s t : List ℕ) → same s t ≡ true → s ≡ t
 same-equal [] [] e = refl
 same-equal [] (y ∷ t) e = let z : _≡_ {A = ℕ} 0 1 = cc in absurd (omega arith)
 same-equal (x ∷ s) [] e = let z : _≡_ {A = ℕ} 0 1 = cc in absurd (omega arith)
 same-equal (x ∷ s) (y ∷ t) e =
-    let h = and-true (eqb x y) (same s t) e in
+    let h = both (eqb x y) (same s t) e in
     ap₂ (λ (n : ℕ) (l : List ℕ). n ∷ l) (eqb-true x y (h .0)) (same-equal s t (h .1))
 
 pub mark-of : (k : Kind) → markOf (mark k) ≡ Of k
@@ -56,9 +53,9 @@ unfolding markOf
 mark-says s = test Dvc (test Det (test Dpd (test Dpt (test Dvp (Unknown, tt))))) .1
   where
     test : Kind → (m : Mark) × Says s m → (m : Mark) × Says s m
-    test k h = (pickMark (same s (mark k)) (Of k) (h .0), go (same s (mark k)) refl)
+    test k h = (cond (same s (mark k)) (Of k) (h .0), go (same s (mark k)) refl)
       where
-        go : (b : Bool) → same s (mark k) ≡ b → Says s (pickMark b (Of k) (h .0))
+        go : (b : Bool) → same s (mark k) ≡ b → Says s (cond b (Of k) (h .0))
         go true e = same-equal s (mark k) e
         go false e = h .1
 

@@ -5,13 +5,14 @@ use Prim.Native.Nat.{ℕ, _+_, _≤_}
 use native.Mathlib.Omega.{arith}
 use lib.ListN.{length, take, drop, length-append}
 use lib.Seq.{take-at, drop-at}
+use Rattle.wire.specs.Parts.{joined}
 use Rattle.records.specs.Layout.{Field, fixed, text, entries, layout}
 use Rattle.records.specs.Extents.{extentOf}
 use Rattle.records.specs.declared.Kind.{Kind}
 use Rattle.records.specs.declared.Kind.the-variants.{Dvc, Det, Dpd, Dpt, Dvp}
 use Rattle.records.specs.declared.Extent.the-variants.{Ends}
 use Rattle.division.specs.Whole.{Is, Fills, Whole}
-use Rattle.division.specs.Division.{AllWhole, joined}
+use Rattle.division.specs.Division.{AllWhole}
 use Rattle.division.specs.Claims.{Unique, Shortest}
 use Rattle.division.proofs.Marks.{mark-length}
 use Rattle.division.proofs.Records.{whole-ends}

@@ -10,7 +10,6 @@ use Rattle.records.specs.Layout.{Field, fixed, text, entries, mark, layout}
 use Rattle.records.specs.declared.Kind.{Kind}
 use Rattle.records.specs.declared.Kind.the-variants.{Dvc, Det, Dpd, Dpt, Dvp}
 use Rattle.division.specs.Whole.{Is, Fills, Whole}
-use Rattle.division.specs.Division.{joined}
 use Rattle.division.specs.Written.{sized, Written, dvc, det, dpd, dpt, dvp, WholeAreWritten}
 
 -- a text field is a text with its length byte in front

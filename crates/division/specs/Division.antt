@@ -1,19 +1,15 @@
 -- The division of a pool: a list of whole records, not an empty one, whose bytes joined are the pool. Definitions only.
 use Prim.Native.Nat.{ℕ, _<_}
 use mathlib.Core.Path.{_≡_}
-use mathlib.Core.List.{List, [], _∷_, _++_}
+use mathlib.Core.List.{List, [], _∷_}
 use lib.ListN.{length}
+use Rattle.wire.specs.Parts.{joined}
 use Rattle.division.specs.Whole.{Whole}
 
 -- each part is a whole record
 abbrev pub AllWhole : List (List ℕ) → Type 0
 AllWhole [] = Unit {0}
 AllWhole (r ∷ rs) = Whole r × AllWhole rs
-
--- records one after the other, as bytes
-abbrev pub joined : List (List ℕ) → List ℕ
-joined [] = []
-joined (r ∷ rs) = r ++ joined rs
 
 -- a division of a pool into these records
 pub record Division (p : List ℕ) (rs : List (List ℕ)) : Type 0 where

@@ -5,11 +5,11 @@ use mathlib.Core.Path.{_≡_}
 use mathlib.Core.Logic.{_↔_}
 use mathlib.Core.List.{List, [], _∷_}
 use lib.ListN.{length}
+use Rattle.wire.specs.Parts.{joined}
 use Rattle.wire.specs.Bytes.{leOf}
 use Rattle.records.specs.declared.Kind.{Kind}
 use Rattle.records.specs.declared.Kind.the-variants.{Dvc, Det, Dpd, Dpt, Dvp}
 use Rattle.division.specs.Whole.{Whole}
-use Rattle.division.specs.Division.{joined}
 
 -- a text with its length byte in front
 abbrev pub sized : List ℕ → List ℕ

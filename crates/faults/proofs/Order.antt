@@ -1,6 +1,6 @@
 -- Which faults the rows of the records give, and in what order. Assumes nothing.
 use mathlib.Core.Path.{_≡_, refl, sym, ap, ap₂, _∙_, subst}
-use mathlib.Core.Bool.{Bool, true, false, _&&_, _||_}
+use mathlib.Core.Bool.{Bool, true, false, _&&_, _||_, and-eq-true-iff}
 use mathlib.Core.List.{List, [], _∷_, _++_, List·Memᴰ, List·Memᴰ·head, List·Memᴰ·tail, List·Memᴰ·not-nil, List·Memᴰ·cases-cons, List·Memᴰ·append-cases, List·Memᴰ·eq-of-singleton, Memᴰ·append-left, Memᴰ·append-right}
 use mathlib.Core.Logic.{⊎-elim, _⊎_, inl, inr}
 use Prim.Native.Nat.{ℕ, zero, suc, _+_, _≤_, _<_}
@@ -11,11 +11,7 @@ use lib.Dec.{eqb, ltb, leb}
 use Rattle.faults.specs.Faults.{Fault, fault, Before, Ascending}
 use Rattle.faults.specs.Rows.{Row, ifSo, upTo, inRows, inRecords, precedes, precedesAll, inOrder, Found}
 
--- ---- two tests in one
-and-true : (a b : Bool) → (a && b) ≡ true → (a ≡ true) × (b ≡ true)
-and-true true b e = (refl, e)
-and-true false b e = let z : _≡_ {A = ℕ} 0 1 = cc in absurd (omega arith)
-
+-- ---- one of two tests
 or-true : (a b : Bool) → (a || b) ≡ true → (a ≡ true) ⊎ (b ≡ true)
 or-true true b e = inl refl
 or-true false b e = inr e
@@ -155,7 +151,7 @@ precedes-means w v e = ⊎-elim (λ l. inl (ltb-true (w .rule) (v .rule) l)) (λ
   where
     same-rule : (eqb (w .rule) (v .rule) && leb (w .first + w .size) (v .first)) ≡ true → (w .rule ≡ v .rule) × (w .first + w .size ≤ v .first)
     same-rule l =
-        let b = and-true (eqb (w .rule) (v .rule)) _ l in
+        let b = and-eq-true-iff (eqb (w .rule) (v .rule)) _ .0 l in
         (eqb-true (w .rule) (v .rule) (b .0), leb-true (w .first + w .size) (v .first) (b .1))
 
 later-row : (n : ℕ) (w v : Row) {f g : Fault} → precedes w v ≡ true → OfRow n w (w .size) f → OfRow n v (v .size) g → Before f g
@@ -166,14 +162,14 @@ later-row n w v e p q =
 precedes-each : (w : Row) (vs : List Row) {v : Row} → precedesAll w vs ≡ true → List·Memᴰ v vs → precedes w v ≡ true
 precedes-each w [] e l = absurd (List·Memᴰ·not-nil l)
 precedes-each w (u ∷ vs) {v} e l =
-    let b = and-true (precedes w u) (precedesAll w vs) e in
+    let b = and-eq-true-iff (precedes w u) (precedesAll w vs) .0 e in
     ⊎-elim (λ (s : v ≡ u). ap (precedes w) s ∙ b .0) (λ (m : List·Memᴰ v vs). precedes-each w vs (b .1) m) (List·Memᴰ·cases-cons l)
 
 ascending-rows : (n : ℕ) (ws : List Row) → inOrder ws ≡ true → Ascending (inRows n ws)
 unfolding inRows
 ascending-rows n [] e = tt
 ascending-rows n (w ∷ ws) e =
-    let b = and-true (precedesAll w ws) (inOrder ws) e in
+    let b = and-eq-true-iff (precedesAll w ws) (inOrder ws) .0 e in
     ascending-append (upTo n w (w .size)) (inRows n ws) (ascending-up-to n w (w .size)) (ascending-rows n ws (b .1))
     (λ f g p q. let r = in-rows n ws q in later-row n w (r .0) (precedes-each w ws (b .0) (r .1)) (in-up-to n w (w .size) p) (r .2))
 

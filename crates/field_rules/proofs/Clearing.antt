@@ -1,6 +1,6 @@
 -- What tells that a record has no fault. Assumes nothing.
 use mathlib.Core.Path.{_≡_, refl, sym, ap, _∙_}
-use mathlib.Core.Bool.{Bool, true, false, not, _&&_, _||_, true≢false}
+use mathlib.Core.Bool.{Bool, true, false, not, _&&_, _||_, true≢false, and-false}
 use mathlib.Core.Logic.{⊎-elim}
 use mathlib.Core.List.{List, _++_}
 use Prim.Native.Nat.{ℕ, zero, suc, _+_, _<_}
@@ -29,10 +29,6 @@ use Rattle.rules.proofs.Truth.{untrue, to-left, to-right}
 use Rattle.field_rules.specs.Clean.{Apart}
 
 -- ---- tests that deny a breach
-
-pub and-false : (a : Bool) → a && false ≡ false
-and-false true = refl
-and-false false = refl
 
 pub sound-clear : (p : List ℕ) (s : Span) → soundText (partOf p s) ≡ true → unsound p s ≡ false
 unfolding unsound

@@ -2,6 +2,7 @@
 use mathlib.Core.Path.{_≡_, refl, sym, ap, _∙_}
 use mathlib.Core.Bool.{Bool, true, false, _&&_, _||_}
 use mathlib.Core.Logic.{_⊎_, inl, inr, ⊎-elim}
+use mathlib.Core.List.{List, [], _∷_}
 use Prim.Native.Nat.{ℕ, zero, suc, _/_, _%_, _^_, _≤_}
 use native.Mathlib.Nat.{pow-succ', div-div-eq-div-mul}
 use native.Mathlib.Omega.{arith}
@@ -11,8 +12,8 @@ use lib.IntN.{ℤ, pos, negsuc}
 use lib.Signed.{ltZ}
 use Rattle.messages.specs.Layout.{carriesValue}
 use Rattle.rules.specs.Breach.{Bit}
-use Rattle.rules.proofs.Truth.{both, either, to-left}
-use Rattle.judging.specs.Judging.{isClear, lacksSetting, lacksTrigger, lacksInterval}
+use Rattle.rules.proofs.Truth.{untrue, both, either, to-left}
+use Rattle.judging.specs.Judging.{isClear, lacksSetting, Asks, triggerTable, lacksIn, lacksTrigger, lacksInterval}
 use Rattle.judging.specs.Causes.{Carries, Sets, Needs, Interval, Negative, below}
 
 -- ---- commands
@@ -81,35 +82,30 @@ pub setting-lacks : {c : ℕ} (x : ℕ) → Sets c → (Bit 1 x → ⊥) → lac
 setting-lacks x Sets.three h = unset-clear 1 x h
 setting-lacks x Sets.ten h = unset-clear 1 x h
 
-pub lacks-trigger : (x c : ℕ) → lacksTrigger x c ≡ true → (b : ℕ) × Needs c b × (Bit b x → ⊥)
-lacks-trigger x c e =
-    ⊎-elim
-    (λ (t : eqb c 4 && isClear 0 x ≡ true). of-one 4 0 Needs.four t)
-    (λ t. ⊎-elim
-    (λ (u : eqb c 5 && isClear 1 x ≡ true). of-one 5 1 Needs.five u)
-    (λ u. ⊎-elim
-    (λ (v : (eqb c 6 || eqb c 7) && isClear 2 x ≡ true). of-two v)
-    (λ (v : eqb c 8 && isClear 3 x ≡ true). of-one 8 3 Needs.eight v)
-    (either ((eqb c 6 || eqb c 7) && isClear 2 x) (eqb c 8 && isClear 3 x) u))
-    (either (eqb c 5 && isClear 1 x) (((eqb c 6 || eqb c 7) && isClear 2 x) || (eqb c 8 && isClear 3 x)) t))
-    (either (eqb c 4 && isClear 0 x) ((eqb c 5 && isClear 1 x) || (((eqb c 6 || eqb c 7) && isClear 2 x) || (eqb c 8 && isClear 3 x))) e)
-  where
-    of-one : (a b : ℕ) → Needs a b → eqb c a && isClear b x ≡ true → (b : ℕ) × Needs c b × (Bit b x → ⊥)
-    of-one a b n t =
-        let s = both (eqb c a) (isClear b x) t in
-        (b, rw (eqb-true c a (s .0)) n, clear-unset b x (s .1))
+-- the rows of a table, each as a word of the causes
+abbrev AllNeed : List Asks → Type 0
+AllNeed [] = Unit {0}
+AllNeed (row ∷ rows) = Needs (row .command) (row .bit) × AllNeed rows
 
-    of-two : (eqb c 6 || eqb c 7) && isClear 2 x ≡ true → (b : ℕ) × Needs c b × (Bit b x → ⊥)
-    of-two t =
-        let s = both (eqb c 6 || eqb c 7) (isClear 2 x) t in
-        (2, ⊎-elim (λ (q : c ≡ 6). rw q Needs.six) (λ (q : c ≡ 7). rw q Needs.seven) (one-of c 6 7 (s .0)), clear-unset 2 x (s .1))
+lacks-in : (rows : List Asks) → AllNeed rows → (x c : ℕ) → lacksIn rows x c ≡ true → (b : ℕ) × Needs c b × (Bit b x → ⊥)
+lacks-in [] needs x c e = untrue e
+lacks-in (row ∷ rows) needs x c e =
+    ⊎-elim
+    (λ (t : eqb c (row .command) && isClear (row .bit) x ≡ true).
+    let s = both (eqb c (row .command)) (isClear (row .bit) x) t in
+    (row .bit, rw (eqb-true c (row .command) (s .0)) (needs .0), clear-unset (row .bit) x (s .1)))
+    (lacks-in rows (needs .1) x c)
+    (either (eqb c (row .command) && isClear (row .bit) x) (lacksIn rows x c) e)
+
+pub lacks-trigger : (x c : ℕ) → lacksTrigger x c ≡ true → (b : ℕ) × Needs c b × (Bit b x → ⊥)
+lacks-trigger = lacks-in triggerTable (Needs.four, (Needs.five, (Needs.six, (Needs.seven, (Needs.eight, tt)))))
 
 pub trigger-lacks : {c b : ℕ} (x : ℕ) → Needs c b → (Bit b x → ⊥) → lacksTrigger x c ≡ true
 trigger-lacks x Needs.four h = to-left false (unset-clear 0 x h)
 trigger-lacks x Needs.five h = to-left false (unset-clear 1 x h)
 trigger-lacks x Needs.six h = to-left false (unset-clear 2 x h)
 trigger-lacks x Needs.seven h = to-left false (unset-clear 2 x h)
-trigger-lacks x Needs.eight h = unset-clear 3 x h
+trigger-lacks x Needs.eight h = to-left false (unset-clear 3 x h)
 
 pub lacks-interval : (v : ℤ) (c : ℕ) → lacksInterval v c ≡ true → Interval c × Negative v
 lacks-interval v c e =

@@ -10,7 +10,7 @@ use lib.Dec.{eqb}
 use lib.IntN.{ℤ}
 use lib.ListN.{length, take}
 use Rattle.pool.specs.Answer.{Answer, answer}
-use Rattle.pool.specs.Reading.{Entry, scanOf, entriesIn, pick, readOf}
+use Rattle.pool.specs.Reading.{Entry, scanOf, entriesIn, readOf}
 use Rattle.pool.specs.Walk.{entriesOf, Divided, Listed}
 use Rattle.faults.specs.Emission.{Emits}
 use Rattle.rules.specs.Table.{breachesIn, breachesOf}
@@ -48,7 +48,7 @@ module _ (p : List ℕ) (room command element ddi : ℕ) (value : ℤ) where
       unfolding acceptance checkOf
       refused = go (readOf p room .number) (readOf p room .value) (sym e)
         where
-          go : (n v : ℕ) → n ≡ number → refusalIn (pick (eqb n 0) (answer 0 (length (breachesOf p))) (answer n v)) ≡ number
+          go : (n v : ℕ) → n ≡ number → refusalIn (cond (eqb n 0) (answer 0 (length (breachesOf p))) (answer n v)) ≡ number
           go n v q = rw (q, ne-eqb number 0 h, ne-eqb number 0 h)
 
       none : countOf p room ≡ 0

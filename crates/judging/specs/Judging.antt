@@ -1,7 +1,7 @@
 -- Judging a command to the device: document 01, the last paragraph of "Process data messages". Definitions only.
 use Prim.Native.Nat.{ℕ, zero, suc, _/_, _%_, _^_}
-use mathlib.Core.Bool.{Bool, cond, not, _&&_, _||_}
-use mathlib.Core.List.{List}
+use mathlib.Core.Bool.{Bool, false, cond, not, _&&_, _||_}
+use mathlib.Core.List.{List, [], _∷_}
 use lib.Dec.{eqb, ltb}
 use lib.IntN.{ℤ, pos}
 use lib.ListN.{length}
@@ -16,25 +16,29 @@ use Rattle.messages.specs.Layout.{carriesValue}
 unfoldable pub elementFor : List ℕ → List Entry → ℕ → ℕ
 elementFor p es element = firstOf (numberKey p es) element (length es)
 
--- 0x04: the process data or property of a DDI, by its record's number from 1, 0 for none. Only the list of the element that
--- starts at a place is looked at, and its first entry with the DDI counts
+-- the first entry that names process data or a property of a DDI, in the list of the device element that starts at a place: by its
+-- number from 1, 0 for none
 unfoldable pub entryFor : List ℕ → List Entry → ℕ → ℕ → ℕ
 entryFor p es at ddi = firstOf (λ (m : ℕ). tagOf p es (named es (entryOf p at m))) (suc ddi) (elementOf p at .entries)
 
+-- the record that such an entry names, by its number from 1; 0 for none
 abbrev pub namedBy : List ℕ → List Entry → ℕ → ℕ → ℕ
 namedBy p es at zero = 0
 namedBy p es at (suc m) = named es (entryOf p at m)
 
+-- 0x04: the object of a command for a DDI, which is the record that this first entry names; 0 for none
 abbrev pub objectFor : List ℕ → List Entry → ℕ → ℕ → ℕ
 objectFor p es at ddi = namedBy p es at (entryFor p es at ddi)
 
--- the two bytes of flags, by the number of the object's kind and its start: process data has them, a property's are all clear
+-- the property bits of an object, by the number of its kind and its start: process data has them, and of a property none is set
 abbrev pub propertiesIn : List ℕ → ℕ → ℕ → ℕ
 propertiesIn p kind at = cond (eqb kind 3) (processDataOf p at .properties) 0
 
+-- the trigger bits of an object, likewise
 abbrev pub triggersIn : List ℕ → ℕ → ℕ → ℕ
 triggersIn p kind at = cond (eqb kind 3) (processDataOf p at .triggers) 0
 
+-- whether a bit of a number is 0; bit 0 is the lowest
 abbrev pub isClear : ℕ → ℕ → Bool
 isClear bit x = eqb (x / 2 ^ bit % 2) 0
 
@@ -42,13 +46,27 @@ isClear bit x = eqb (x / 2 ^ bit % 2) 0
 abbrev pub lacksSetting : ℕ → ℕ → Bool
 lacksSetting properties command = (eqb command 3 || eqb command 10) && isClear 1 properties
 
--- 0x08: 4 to 8 start a measurement, each by its own trigger, 6 and 7 by the same
+-- a row of the trigger table: a command that starts a measurement, and the trigger bit that it asks for
+pub record Asks : Type 0 where
+  pub command : ℕ
+  pub bit : ℕ
+
+-- a row, by its command and its bit
+abbrev pub asks : ℕ → ℕ → Asks
+asks command bit = record { command = command; bit = bit }
+
+-- the trigger table: 4 asks for time, 5 for distance, 6 and 7 for threshold, 8 for on change; no other command asks for a trigger
+abbrev pub triggerTable : List Asks
+triggerTable = asks 4 0 ∷ asks 5 1 ∷ asks 6 2 ∷ asks 7 2 ∷ asks 8 3 ∷ []
+
+-- a command looked up in a table of triggers: a row has it, with a bit that is clear
+abbrev pub lacksIn : List Asks → ℕ → ℕ → Bool
+lacksIn [] triggers command = false
+lacksIn (row ∷ rows) triggers command = (eqb command (row .command) && isClear (row .bit) triggers) || lacksIn rows triggers command
+
+-- 0x08: the trigger that the command asks for is not there
 abbrev pub lacksTrigger : ℕ → ℕ → Bool
-lacksTrigger triggers command =
-    (eqb command 4 && isClear 0 triggers)
-    || ((eqb command 5 && isClear 1 triggers)
-    || (((eqb command 6 || eqb command 7) && isClear 2 triggers)
-    || (eqb command 8 && isClear 3 triggers)))
+lacksTrigger triggers command = lacksIn triggerTable triggers command
 
 -- 0x20: 4 and 5 carry an interval, of time or distance
 abbrev pub lacksInterval : ℤ → ℕ → Bool

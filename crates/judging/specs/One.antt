@@ -20,9 +20,11 @@ pub record Lists (p : List ℕ) (es : List Entry) (i m ddi : ℕ) : Type 0 where
   pub there : m < elementOf p (startAt es i) .entries
   pub names : tagOf p es (named es (entryOf p (startAt es i) m)) ≡ suc ddi
 
+-- an element number belongs to one device element only, and in the list of a device element a DDI to one entry only
 pub record NamesOne (p : List ℕ) (es : List Entry) : Type 0 where
   pub element : (i j : ℕ) → Element es i → Element es j → elementOf p (startAt es i) .number ≡ elementOf p (startAt es j) .number → i ≡ j
   pub entry : (i m n ddi : ℕ) → Element es i → Lists p es i m ddi → Lists p es i n ddi → m ≡ n
 
+-- so it is in every pool that is accepted
 abbrev pub AcceptedNamesOne : Type 0
 AcceptedNamesOne = (p : List ℕ) (room : ℕ) → acceptance p room ≡ 0 → NamesOne p (entriesIn (scanOf p))

@@ -16,15 +16,15 @@ use mir.Val.{SFits, toZ, ofZ}
 use mir.ValLaws.{toZ-ofZ}
 use Rattle.lister.specs.declared.Input.{Input}
 use Rattle.lister.specs.declared.Input.the-variants.{More, Ended, Failed}
-use Rattle.lister.specs.Reading.{readOn, Further, Over}
+use Rattle.lister.specs.Reading.{inputAfter, Further, Over}
 use Rattle.lister.proofs.Input.{the-type}
 
 -- a negative answer, and one that is not, as the number that the code makes of it
-pub negative : (n : ℕ) (z : ℤ) (room : ℕ) → SFits w64 z → ltZ (toZ w64 (ofZ w64 z)) (pos 0) ≡ true → Failed ≡ readOn n z room
-unfolding readOn
+pub negative : (n : ℕ) (z : ℤ) (room : ℕ) → SFits w64 z → ltZ (toZ w64 (ofZ w64 z)) (pos 0) ≡ true → Failed ≡ inputAfter n z room
+unfolding inputAfter
 negative n z room f t = go z (rw (toZ-ofZ w64 z f) at t)
   where
-    go : (y : ℤ) → ltZ y (pos 0) ≡ true → Failed ≡ readOn n y room
+    go : (y : ℤ) → ltZ y (pos 0) ≡ true → Failed ≡ inputAfter n y room
     go (pos k) u = absurd (omega (arith, ltb-true k 0 u))
     go (negsuc k) u = refl
 
@@ -42,24 +42,24 @@ plain z f t = go z f (rw (toZ-ofZ w64 z f) at t)
     go (negsuc k) g u = absurd (true≢false u)
 
 -- the three answers of a read that does not fail by its sign
-pub ended : (n k room : ℕ) → k ≡ 0 → Ended n ≡ readOn n (pos k) room
-unfolding readOn
+pub ended : (n k room : ℕ) → k ≡ 0 → Ended n ≡ inputAfter n (pos k) room
+unfolding inputAfter
 ended n zero room e = refl
 ended n (suc k) room e = absurd (omega arith)
 
-pub above : (n k room : ℕ) → room < k → Failed ≡ readOn n (pos k) room
-unfolding readOn
+pub above : (n k room : ℕ) → room < k → Failed ≡ inputAfter n (pos k) room
+unfolding inputAfter
 above n zero room h = absurd (omega arith)
 above n (suc k) room h = rw (lt-leb (suc k) room h)
 
-pub came : (n k room : ℕ) → (k ≡ 0 → ⊥) → k ≤ room → More (n + k) ≡ readOn n (pos k) room
-unfolding readOn
+pub came : (n k room : ℕ) → (k ≡ 0 → ⊥) → k ≤ room → More (n + k) ≡ inputAfter n (pos k) room
+unfolding inputAfter
 came n zero room z h = absurd (z refl)
 came n (suc k) room z h = rw (le-leb (suc k) room h)
 
 -- whatever a read answers, reading comes further inside the buffer, or ends, or fails
-further : (n room size : ℕ) (z : ℤ) → n + room ≡ size → Further n size (readOn n z room)
-unfolding readOn
+further : (n room size : ℕ) (z : ℤ) → n + room ≡ size → Further n size (inputAfter n z room)
+unfolding inputAfter
 further n room size (negsuc k) e = tt
 further n room size (pos zero) e = refl
 further n room size (pos (suc k)) e = go (leb (suc k) room) refl
@@ -68,7 +68,7 @@ further n room size (pos (suc k)) e = go (leb (suc k) room) refl
     go true u = (omega arith, omega (arith, leb-true (suc k) room u))
     go false u = tt
 
-pub comes : (n room : ℕ) (z : ℤ) (size : ℕ) (r : Input) → r ≡ readOn n z room → n + room ≡ size → Further n size r
+pub comes : (n room : ℕ) (z : ℤ) (size : ℕ) (r : Input) → r ≡ inputAfter n z room → n + room ≡ size → Further n size r
 comes n room z size r e h = subst (Further n size) (sym e) (further n room size z h)
 
 pub over : (n size : ℕ) (r : Input) → OneOf (1 ∷ 2 ∷ []) (tagOf the-type r) → n ≤ size → Further n size r → Over size r

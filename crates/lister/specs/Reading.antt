@@ -9,10 +9,10 @@ use Rattle.lister.specs.declared.Input.the-variants.{More, Ended, Failed
 
 -- what a read says when n bytes have come: a negative answer, or one above the room, is a failure and never the end; 0 is the end; any
 -- other answer is the number of bytes that came
-unfoldable pub readOn : ℕ → ℤ → ℕ → Input
-readOn n (negsuc k) room = Failed
-readOn n (pos zero) room = Ended n
-readOn n (pos (suc k)) room = cond (leb (suc k) room) (More (n + suc k)) Failed
+unfoldable pub inputAfter : ℕ → ℤ → ℕ → Input
+inputAfter n (negsuc k) room = Failed
+inputAfter n (pos zero) room = Ended n
+inputAfter n (pos (suc k)) room = cond (leb (suc k) room) (More (n + suc k)) Failed
 
 -- reading has come further, and not past the buffer, or it has ended where it was, or failed
 abbrev pub Further : ℕ → ℕ → Input → Type 0

@@ -6,7 +6,7 @@ use libc::STDOUT_FILENO;
 ghost use Prim.Native.Nat.{_+_, _^_, _≤_, _<_};
 ghost use mathlib.Core.Path.{_≡_};
 ghost use lib.ListN.{length};
-ghost use Rattle.lister.specs.Reading.{readOn, Further, Over};
+ghost use Rattle.lister.specs.Reading.{inputAfter, Further, Over};
 
 // How far reading has come: so many bytes and perhaps more, all of so many, or a read that failed.
 enum Input {
@@ -19,7 +19,7 @@ enum Input {
 // what came so far may divide into records and yet not be the whole pool.
 fn read_on(n: usize, got: isize, room: usize) -> Input
     requires { ⌜ n + room < 2 ^ 64 ⌝ }
-    ensures { λ r. ⌜ r ≡ readOn n got room ⌝ }
+    ensures { λ r. ⌜ r ≡ inputAfter n got room ⌝ }
 {
     if got < 0 {
         return Input::Failed;

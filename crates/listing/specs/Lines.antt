@@ -6,26 +6,31 @@ use Rattle.records.specs.Layout.{mark}
 use Rattle.records.specs.declared.Kind.the-variants.{Dvc, Det, Dpd, Dpt, Dvp}
 use Rattle.decimal.specs.Digits.{digits}
 
--- a space, and what ends a line
+-- a space
 abbrev pub space : List ℕ
 space = 0x20 ∷ []
 
+-- what ends a line
 abbrev pub newline : List ℕ
 newline = 0x0A ∷ []
 
--- the words, each with the spaces that part it from its numbers: "records ", " at ", " length ", "fault ", "refused "
+-- "records ": this word and those below have the spaces that part them from their numbers
 abbrev pub recordsWord : List ℕ
 recordsWord = 0x72 ∷ 0x65 ∷ 0x63 ∷ 0x6F ∷ 0x72 ∷ 0x64 ∷ 0x73 ∷ 0x20 ∷ []
 
+-- " at "
 abbrev pub atWord : List ℕ
 atWord = 0x20 ∷ 0x61 ∷ 0x74 ∷ 0x20 ∷ []
 
+-- " length "
 abbrev pub lengthWord : List ℕ
 lengthWord = 0x20 ∷ 0x6C ∷ 0x65 ∷ 0x6E ∷ 0x67 ∷ 0x74 ∷ 0x68 ∷ 0x20 ∷ []
 
+-- "fault "
 abbrev pub faultWord : List ℕ
 faultWord = 0x66 ∷ 0x61 ∷ 0x75 ∷ 0x6C ∷ 0x74 ∷ 0x20 ∷ []
 
+-- "refused "
 abbrev pub refusedWord : List ℕ
 refusedWord = 0x72 ∷ 0x65 ∷ 0x66 ∷ 0x75 ∷ 0x73 ∷ 0x65 ∷ 0x64 ∷ 0x20 ∷ []
 

@@ -8,12 +8,12 @@ use borrow.Author.Tests.{leb-true, leb-false, ltb-true, ltb-false}
 use lib.Dec.{leb, ltb}
 use lib.ListN.{length, getD, take, drop, length-append, length-drop, take-append-drop, List·getD-append}
 use lib.Seq.{length-take-le, getD-at, split-at}
+use Rattle.wire.proofs.Either.{by-case}
 use Rattle.time_log.specs.Layout.{partWidth, placeOf, recordLength}
 use Rattle.time_log.specs.Contents.{fieldsAt, countAt, extentOf, ordinalsAt}
 use Rattle.time_log.specs.Judging.{anyOver, recordRefusal}
 use Rattle.time_log.proofs.Refusals.{not-forty, ends-early, ends-inside, whole-record}
 use Rattle.log_reading.specs.Whole.{fieldBytes, Whole, Cut, Starts, CutIsForty}
-use Rattle.log_reading.proofs.Divided.{by-case}
 
 -- ---- bytes that can be added
 abbrev zeros : ℕ → List ℕ

@@ -1,6 +1,5 @@
 -- A log is read whole exactly where it is records joined. Assumes nothing.
 use mathlib.Core.Path.{_≡_, refl, sym, ap, _∙_}
-use mathlib.Core.Bool.{Bool, true, false}
 use mathlib.Core.List.{List, [], _∷_, _++_}
 use Prim.Native.Nat.{ℕ, zero, suc, _+_, _-_, _≤_, _<_}
 use native.Mathlib.Omega.{arith}
@@ -8,18 +7,16 @@ use borrow.Author.Tests.{eqb-true, eqb-false, le-ltb}
 use lib.Dec.{eqb}
 use lib.ListN.{length, take, drop, length-append, length-drop, take-append-drop}
 use lib.Seq.{length-take-le, getD-take, drop-append-seam}
+use Rattle.wire.proofs.Either.{by-case}
+use Rattle.wire.specs.Parts.{joined}
 use Rattle.time_log.specs.Layout.{placeOf, recordLength}
 use Rattle.time_log.specs.Contents.{countAt, extentOf}
 use Rattle.time_log.specs.Judging.{recordRefusal}
 use Rattle.log_reading.specs.Logs.{wholeLog, walk, logOf}
-use Rattle.log_reading.specs.Joined.{OneRecord, AllRecords, joined, Records, LogsAreRecords}
+use Rattle.log_reading.specs.Joined.{OneRecord, AllRecords, Records, LogsAreRecords}
 use Rattle.log_reading.specs.declared.Log.{Log}
 use Rattle.log_reading.proofs.Prefix.{granted, extent-same, refusal-more, refusal-less}
 use Rattle.log_reading.proofs.Walks.{walk-end, walk-on, walk-stop}
-
-pub by-case : {P : Type 0} (t : Bool) → (t ≡ true → P) → (t ≡ false → P) → P
-by-case true f g = f refl
-by-case false f g = g refl
 
 empty : (s : List ℕ) → length s ≡ 0 → s ≡ []
 empty [] e = refl

@@ -9,14 +9,16 @@ use borrow.Author.Tests.{eqb-true, eqb-false, lt-ltb, le-ltb, ltb-true, ltb-fals
 use lib.Dec.{eqb, ltb}
 use lib.ListN.{length, take, drop, length-append, length-drop, take-append-drop}
 use lib.Seq.{length-take-le, drop-append-seam}
+use Rattle.wire.proofs.Either.{by-case}
+use Rattle.wire.specs.Parts.{joined}
 use Rattle.time_log.specs.Contents.{countAt, extentOf}
 use Rattle.time_log.specs.Judging.{recordRefusal}
 use Rattle.log_reading.specs.Logs.{badLog, walk, logOf}
-use Rattle.log_reading.specs.Joined.{AllRecords, joined, RefusedAt, LogsAreRefused}
+use Rattle.log_reading.specs.Joined.{AllRecords, RefusedAt, LogsAreRefused}
 use Rattle.log_reading.specs.declared.Log.{Log}
 use Rattle.log_reading.proofs.Prefix.{granted, extent-same, refusal-more}
 use Rattle.log_reading.proofs.Walks.{walk-end, walk-on, walk-stop}
-use Rattle.log_reading.proofs.Divided.{by-case, first, extent-inside}
+use Rattle.log_reading.proofs.Divided.{first, extent-inside}
 
 module _ (layout logged : ℕ) where
   ended : (turns at n x st : ℕ) (s : List ℕ) → length s ≡ 0 → 0 < x → walk layout logged turns at n s ≡ badLog x st → ⊥

@@ -4,6 +4,7 @@ use mathlib.Core.Path.{_≡_}
 use mathlib.Core.Logic.{_↔_, _⊎_}
 use mathlib.Core.List.{List, [], _∷_, _++_}
 use lib.ListN.{length}
+use Rattle.wire.specs.Parts.{joined}
 use Rattle.time_log.specs.Layout.{recordLength}
 use Rattle.time_log.specs.Contents.{countAt}
 use Rattle.time_log.specs.Judging.{recordRefusal}
@@ -18,11 +19,6 @@ pub record OneRecord (layout logged : ℕ) (r : List ℕ) : Type 0 where
 abbrev pub AllRecords : ℕ → ℕ → List (List ℕ) → Type 0
 AllRecords layout logged [] = Unit {0}
 AllRecords layout logged (r ∷ rs) = OneRecord layout logged r × AllRecords layout logged rs
-
--- the parts back to back
-abbrev pub joined : List (List ℕ) → List ℕ
-joined [] = []
-joined (r ∷ rs) = r ++ joined rs
 
 -- bytes that are n records
 pub record Records (layout logged n : ℕ) (s : List ℕ) : Type 0 where

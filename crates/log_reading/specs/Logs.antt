@@ -8,10 +8,11 @@ use Rattle.time_log.specs.Contents.{extentOf}
 use Rattle.time_log.specs.Judging.{recordRefusal}
 use Rattle.log_reading.specs.declared.Log.{Log}
 
--- a whole log gives its count; a refusal gives the start of its record
+-- the answer for a log that is read whole: how many records it has
 abbrev pub wholeLog : ℕ → Log
 wholeLog n = record { number = 0; count = n; start = 0 }
 
+-- the answer for a log that is refused: the refusal's number, and where the record starts that is to blame
 abbrev pub badLog : ℕ → ℕ → Log
 badLog x at = record { number = x; count = 0; start = at }
 

@@ -12,13 +12,15 @@ use Rattle.time_log.specs.Judging.{anyOver, fieldsRefusal}
 use Rattle.time_log.specs.declared.Fields.{Fields}
 use Rattle.log_writing.specs.declared.Written.{Written}
 
--- a field that the layout does not mark counts as 0, whatever is handed over for it
+-- optional field k as it is written: 0 where the layout does not mark it, whatever is handed over for it
 abbrev pub keptNumber : ℕ → ℕ → ℕ → ℕ
 keptNumber layout k x = cond (eqb (partWidth layout k) 0) 0 x
 
+-- the same of a signed field
 abbrev pub keptSigned : ℕ → ℕ → ℤ → ℤ
 keptSigned layout k z = cond (eqb (partWidth layout k) 0) (pos 0) z
 
+-- all fields as they are written; time and days are always there
 abbrev pub keptFields : ℕ → Fields → Fields
 keptFields layout f =
     record {

@@ -1,6 +1,6 @@
 -- Messages written and read back, and read and written back. Assumes nothing.
-use mathlib.Core.Path.{_≡_, refl, sym, ap, ap₂, _∙_}
-use mathlib.Core.Bool.{Bool, true, false, not, _&&_, _||_, cond, true≢false}
+use mathlib.Core.Path.{_≡_, refl, sym, ap, _∙_}
+use mathlib.Core.Bool.{Bool, true, false, not, _||_, cond, true≢false}
 use mathlib.Core.List.{List, [], _∷_, _++_}
 use Prim.Native.Nat.{ℕ, zero, suc, _+_, _*_, _/_, _%_, _^_, _≤_, _<_}
 use native.Mathlib.Omega.{arith}
@@ -17,11 +17,11 @@ use Rattle.wire.specs.Bytes.{Octets, leOf, bytesOf, numberAt, signedOf, bitsOf}
 use Rattle.wire.proofs.Width.{back, bytes-long}
 use Rattle.wire.proofs.Complement.{bits-small, signed-bits}
 use Rattle.messages.specs.Layout.{carriesValue, headBytes, valueBytes, acknowledgeBytes, acknowledge}
-use Rattle.messages.specs.Reading.{Fields, valued, acknowledged, refused, choose, readOf}
+use Rattle.messages.specs.Reading.{Fields, valued, acknowledged, refused, readOf}
 use Rattle.messages.specs.Writing.{valueRefusal, valueAfter, acknowledgeRefusal, acknowledgeAfter}
 use Rattle.messages.specs.Back.{ReadsBack}
 use Rattle.messages.proofs.Laying.{command-small, first-eight}
-use Rattle.wire.proofs.Either.{neither}
+use Rattle.wire.proofs.Either.{neither, by-case}
 use Rattle.wire.proofs.Octets.{again, signed-again, number-small}
 use Rattle.messages.proofs.Eight.{Eight, eight}
 
@@ -89,10 +89,6 @@ acknowledge-back to element ddi errors answered e h =
     (read-acknowledge element ddi errors answered h a)
 
 -- ---- read, then written
-
-by-case : {P : Type 0} (t : Bool) → (t ≡ true → P) → (t ≡ false → P) → P
-by-case true f g = f refl
-by-case false f g = g refl
 
 -- only eight bytes are read
 long-enough : (s : List ℕ) → readOf s .number ≡ 0 → length s ≡ 8

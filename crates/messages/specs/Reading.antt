@@ -1,6 +1,6 @@
 -- Reading a message: its fields, or refusal 30 or 31. Definitions only.
 use Prim.Native.Nat.{ℕ, _+_, _*_, _/_, _%_}
-use mathlib.Core.Bool.{Bool, true, false, not}
+use mathlib.Core.Bool.{cond, not}
 use mathlib.Core.List.{List}
 use lib.Dec.{eqb}
 use lib.IntN.{ℤ, pos}
@@ -40,11 +40,6 @@ fieldsOf (Acknowledge element ddi errors answered) = acknowledged element ddi er
 fieldsOf NotEight = refused 30
 fieldsOf NoCommand = refused 31
 
--- one of two, by a test
-abbrev pub choose {ℓ} : {A : Type ℓ} → Bool → A → A → A
-choose true a b = a
-choose false a b = b
-
 -- the fields of eight bytes
 abbrev pub commandIn : List ℕ → ℕ
 commandIn s = getD s 0 0 % 16
@@ -56,7 +51,7 @@ elementIn s = getD s 0 0 / 16 + 16 * getD s 1 0
 -- 30 for other than eight bytes; a value message; an acknowledge; 31 for any other command
 unfoldable pub readOf : List ℕ → Fields
 readOf s =
-    choose (not (eqb (length s) 8)) (refused 30)
-    (choose (carriesValue (commandIn s)) (valued (commandIn s) (elementIn s) (numberAt 2 s 2) (signedOf 4 (numberAt 4 s 4)))
-    (choose (eqb (commandIn s) acknowledge) (acknowledged (elementIn s) (numberAt 2 s 2) (getD s 4 0) (getD s 5 0 % 16))
+    cond (not (eqb (length s) 8)) (refused 30)
+    (cond (carriesValue (commandIn s)) (valued (commandIn s) (elementIn s) (numberAt 2 s 2) (signedOf 4 (numberAt 4 s 4)))
+    (cond (eqb (commandIn s) acknowledge) (acknowledged (elementIn s) (numberAt 2 s 2) (getD s 4 0) (getD s 5 0 % 16))
     (refused 31)))

@@ -1,13 +1,12 @@
 -- Writing a message: 31, 32, 33, or exactly eight bytes. Definitions only.
 use Prim.Native.Nat.{ℕ}
-use mathlib.Core.Bool.{Bool, true, false, not, cond, _||_}
+use mathlib.Core.Bool.{not, cond, _||_}
 use mathlib.Core.List.{List}
 use lib.Dec.{eqb, ltb}
 use lib.IntN.{ℤ}
 use lib.ListN.{length}
 use lib.Seq.{sets}
 use Rattle.messages.specs.Layout.{carriesValue, valueBytes, acknowledgeBytes}
-use Rattle.messages.specs.Reading.{choose}
 use Rattle.messages.specs.declared.Written.{Written}
 use Rattle.messages.specs.declared.Written.the-variants.{Done, NoCommand, TooLarge, NoRoom}
 
@@ -30,9 +29,9 @@ acknowledgeRefusal element answered room = cond (ltb 4095 element || ltb 15 answ
 -- what is lent then starts with the message, and later bytes stay; a refusal changes nothing
 unfoldable pub valueAfter : List ℕ → ℕ → ℕ → ℕ → ℤ → List ℕ
 valueAfter to command element ddi value =
-    choose (eqb (valueRefusal command element (length to)) 0) (sets to 0 (valueBytes command element ddi value)) to
+    cond (eqb (valueRefusal command element (length to)) 0) (sets to 0 (valueBytes command element ddi value)) to
 
 -- the same of an acknowledge
 unfoldable pub acknowledgeAfter : List ℕ → ℕ → ℕ → ℕ → ℕ → List ℕ
 acknowledgeAfter to element ddi errors answered =
-    choose (eqb (acknowledgeRefusal element answered (length to)) 0) (sets to 0 (acknowledgeBytes element ddi errors answered)) to
+    cond (eqb (acknowledgeRefusal element answered (length to)) 0) (sets to 0 (acknowledgeBytes element ddi errors answered)) to

@@ -1,7 +1,7 @@
 -- What a walk's answer says of reading. Assumes nothing.
 use mathlib.Core.Path.{_≡_, refl, sym, ap, _∙_}
 use mathlib.Core.Logic.{⊎-elim}
-use mathlib.Core.Bool.{Bool, true, false}
+use mathlib.Core.Bool.{Bool, true, false, cond}
 use mathlib.Core.List.{List, [], _∷_, map}
 use Prim.Native.Nat.{ℕ, zero, suc, _+_, _*_, _≤_, _<_}
 use native.Mathlib.Omega.{arith}
@@ -12,7 +12,7 @@ use lib.ListN.{length, take}
 use lib.Seq.{length-take-le}
 use types.Run.{OneOf}
 use Rattle.pool.specs.Answer.{Answer, answer, answerOf}
-use Rattle.pool.specs.Reading.{Entry, Cause, unmarked, cut, over, causeNumber, Scan, records, refused, scanOf, entriesIn, pick, counted, readOf}
+use Rattle.pool.specs.Reading.{Entry, Cause, unmarked, cut, over, causeNumber, Scan, records, refused, scanOf, entriesIn, counted, readOf}
 use Rattle.pool.specs.Walk.{countFrom, entriesOf, Starts, Listed}
 use Rattle.pool.specs.declared.Outcome.{Outcome}
 use Rattle.pool.specs.declared.Outcome.the-variants.{Records, Empty, TooLong, NoMark, Cut, LengthOver, TooMany, TableShort}
@@ -38,7 +38,7 @@ walk-count n (records es) e =
     (refl, omega arith)
 walk-count n (refused c at) e = absurd (cause-number c (sym (ap (λ (a : Answer). a .number) e)))
 
-pub walk-counted : (room n : ℕ) (s : Scan) → answer 0 n ≡ countFrom 0 s → counted room s ≡ pick (ltb 8192 n) (answer 6 0) (pick (ltb room n) (answer 7 n) (answer 0 n))
+pub walk-counted : (room n : ℕ) (s : Scan) → answer 0 n ≡ countFrom 0 s → counted room s ≡ cond (ltb 8192 n) (answer 6 0) (cond (ltb room n) (answer 7 n) (answer 0 n))
 walk-counted room n s e =
     let w = walk-count n s e in
     ap (counted room) (w .0) ∙ rw (w .1)
@@ -67,8 +67,12 @@ pub walk-refused : (room : ℕ) (s : Scan) (w : Outcome) → NoCount w → answe
 walk-refused room (refused c at) w k e = e
 walk-refused room (records es) w k e = absurd (no-count w k (ap (λ (a : Answer). a .number) e))
 
+-- an answer with number 0 is a count
+pub as-read : (a : Answer) → a .number ≡ 0 → a ≡ answer 0 (a .value)
+as-read a n = rw (← n)
+
 -- a refusal that a test picks was not picked where a count is answered
-picked : (b : Bool) (x y : Answer) (n : ℕ) → (x .number ≡ 0 → ⊥) → answer 0 n ≡ pick b x y → (b ≡ false) × (answer 0 n ≡ y)
+picked : (b : Bool) (x y : Answer) (n : ℕ) → (x .number ≡ 0 → ⊥) → answer 0 n ≡ cond b x y → (b ≡ false) × (answer 0 n ≡ y)
 picked true x y n never e = absurd (never (sym (ap (λ (a : Answer). a .number) e)))
 picked false x y n never e = (refl, e)
 
@@ -84,7 +88,7 @@ pub record Counted (p : List ℕ) (room n : ℕ) : Type 0 where
 pub read-counted : (p : List ℕ) (room n : ℕ) → answer 0 n ≡ readOf p room → Counted p room n
 unfolding readOf
 read-counted p room n e =
-    let first = picked (eqb (length p) 0) (answer 1 0) (pick (ltb 65535 (length p)) (answer 2 0) (counted room (scanOf p))) n (λ (z : 1 ≡ 0). omega arith) e in
+    let first = picked (eqb (length p) 0) (answer 1 0) (cond (ltb 65535 (length p)) (answer 2 0) (counted room (scanOf p))) n (λ (z : 1 ≡ 0). omega arith) e in
     let second = picked (ltb 65535 (length p)) (answer 2 0) (counted room (scanOf p)) n (λ (z : 2 ≡ 0). omega arith) (first .1) in
     go (eqb-false (length p) 0 (first .0)) (ltb-false 65535 (length p) (second .0)) (scanOf p) refl (second .1)
   where
@@ -92,7 +96,7 @@ read-counted p room n e =
     go a b (refused c at) x f = absurd (cause-number c (sym (ap (λ (y : Answer). y .number) f)))
     go a b (records es) x f =
         let l = length es in
-        let six = picked (ltb 8192 l) (answer 6 0) (pick (ltb room l) (answer 7 l) (answer 0 l)) n (λ (z : 6 ≡ 0). omega arith) f in
+        let six = picked (ltb 8192 l) (answer 6 0) (cond (ltb room l) (answer 7 l) (answer 0 l)) n (λ (z : 6 ≡ 0). omega arith) f in
         let seven = picked (ltb room l) (answer 7 l) (answer 0 l) n (λ (z : 7 ≡ 0). omega arith) (six .1) in
         let same : n ≡ l = ap (λ (y : Answer). y .value) (seven .1) in
         let few-left : l ≤ 8192 = ltb-false 8192 l (six .0) in

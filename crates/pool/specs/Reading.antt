@@ -1,6 +1,6 @@
 -- Reading a pool: document 01, "Reading a pool". Definitions only.
 use Prim.Native.Nat.{ℕ, zero, suc, _+_, _-_}
-use mathlib.Core.Bool.{Bool, true, false}
+use mathlib.Core.Bool.{Bool, true, false, cond}
 use mathlib.Core.List.{List, [], _∷_, _++_}
 use lib.Dec.{eqb, ltb}
 use lib.ListN.{length}
@@ -83,16 +83,11 @@ abbrev pub entriesIn : Scan → List Entry
 entriesIn (records es) = es
 entriesIn (refused c at) = []
 
--- one of two answers, by a test
-abbrev pub pick : Bool → Answer → Answer → Answer
-pick true a b = a
-pick false a b = b
-
 -- once all of the pool has been walked: too many records, then too short a table
 abbrev pub counted : ℕ → Scan → Answer
 counted room (refused c at) = answer (causeNumber c) at
-counted room (records es) = pick (ltb 8192 (length es)) (answer 6 0) (pick (ltb room (length es)) (answer 7 (length es)) (answer 0 (length es)))
+counted room (records es) = cond (ltb 8192 (length es)) (answer 6 0) (cond (ltb room (length es)) (answer 7 (length es)) (answer 0 (length es)))
 
 -- the size is judged before anything else; room is the number of entries that the table has
 unfoldable pub readOf : List ℕ → ℕ → Answer
-readOf p room = pick (eqb (length p) 0) (answer 1 0) (pick (ltb 65535 (length p)) (answer 2 0) (counted room (scanOf p)))
+readOf p room = cond (eqb (length p) 0) (answer 1 0) (cond (ltb 65535 (length p)) (answer 2 0) (counted room (scanOf p)))

@@ -23,7 +23,7 @@ use Rattle.chains.specs.Steps.{Falling}
 use Rattle.chains.proofs.Noting.{noted-start, noted-more, noted-repeats, element-passed}
 use Rattle.chains.proofs.Falling.{falling-start, falling-other, falling-out, falling-on, falling-endless}
 use Rattle.field_rules.proofs.Clearing.{clear-both}
-use Rattle.pool_breaches.specs.Passing.{Marked, Sighted}
+use Rattle.pool_breaches.specs.Passing.{BreachesMarked, Sighted}
 
 module _ (p starts : List ℕ) where
   pub sighted-start : (numbers again endless : List ℕ) → 4096 ≤ 8 * length numbers → length starts ≤ 8 * length again → length starts ≤ 8 * length endless
@@ -60,7 +60,7 @@ module _ (p starts : List ℕ) where
   -- a device element whose number is over 4095 has all records marked before rule 8 is judged
   module _ (i : ℕ) (l : suc i < length starts) (own : kindAt (entriesOf p starts) i ≡ 2) (e : DeviceElement) (is : e ≡ elementOf p (startAt (entriesOf p starts) i))
       (before : Bool) (numbers again endless : List ℕ) (w : Sighted p starts i before numbers again endless) (over : Bool) (again′ endless′ : List ℕ)
-      (marked : over ≡ true → Marked p starts again′ endless′) (plain : over ≡ false → (before ≡ false) × (ltb 4095 (e .number) ≡ false)) where
+      (marked : over ≡ true → BreachesMarked p starts again′ endless′) (plain : over ≡ false → (before ≡ false) × (ltb 4095 (e .number) ≡ false)) where
     pub number-low : over ≡ false → e .number < 4096
     number-low f = omega (arith, ltb-false 4095 (e .number) (plain f .1))
 
@@ -87,7 +87,7 @@ module _ (p starts : List ℕ) where
       (parent kind : ℕ) (parent-is : parent ≡ named (entriesOf p starts) (e .parent)) (kind-is : kind ≡ kindOf (entriesOf p starts) parent)
       (before : Bool) (numbers again endless : List ℕ) (w : Sighted p starts i before numbers again endless)
       (unusual full : Bool) (unusual-is : unusual ≡ (ltb 4095 (e .number) || (eqb kind 2 && ltb i parent))) (again′ endless′ : List ℕ)
-      (marked : full ≡ true → Marked p starts again′ endless′) (plain : full ≡ false → (before ≡ false) × (unusual ≡ false) × Blank again′ × Blank endless′) where
+      (marked : full ≡ true → BreachesMarked p starts again′ endless′) (plain : full ≡ false → (before ≡ false) × (unusual ≡ false) × Blank again′ × Blank endless′) where
     usual : full ≡ false → (ltb 4095 (e .number) ≡ false) × (eqb kind 2 && ltb i parent ≡ false)
     usual f = clear-both (ltb 4095 (e .number)) (eqb kind 2 && ltb i parent) (sym unusual-is ∙ plain f .1)
 

@@ -21,7 +21,7 @@ abbrev pub Completes : List ℕ → List Entry → List ℕ → ℕ → List ℕ
 Completes p es before n after m = (b : List ℕ) → Puts 0 (poolRows p es) b 0 before n → Emits b 0 (breachesIn p es) after m
 
 -- marks under the records say which of them break rules 8 and 9
-pub record Marked (p starts again endless : List ℕ) : Type 0 where
+pub record BreachesMarked (p starts again endless : List ℕ) : Type 0 where
   pub repeating : (i : ℕ) → suc i < length starts → kindAt (entriesOf p starts) i ≡ 2
       → bitAt again i ≡ repeats (elementKey p (entriesOf p starts)) (elementKey p (entriesOf p starts) i) i (length (entriesOf p starts))
   pub circling : (i : ℕ) → suc i < length starts
@@ -33,7 +33,7 @@ pub record Sighted (p starts : List ℕ) (i : ℕ) (full : Bool) (numbers again 
   pub room : 4096 ≤ 8 * length numbers
   pub again-room : length starts ≤ 8 * length again
   pub endless-room : length starts ≤ 8 * length endless
-  pub marked : full ≡ true → Marked p starts again endless
+  pub marked : full ≡ true → BreachesMarked p starts again endless
   pub blank : full ≡ false → Blank again × Blank endless
   pub noted : full ≡ false → Noted 4096 (elementKey p (entriesOf p starts)) i numbers
   pub falling : full ≡ false → Falling p (entriesOf p starts) (suc i)

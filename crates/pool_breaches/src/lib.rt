@@ -15,7 +15,7 @@ ghost use Rattle.naming.specs.Naming.{firstOf, named, kindOf, parentOf, climb};
 ghost use Rattle.naming.specs.Lists.{Blank};
 ghost use Rattle.naming.specs.Chained.{Names, Owned};
 ghost use Rattle.rules.specs.Table.{repeats, elementKey, breachesIn};
-ghost use Rattle.pool_breaches.specs.Passing.{Completes, Marked, Sighted, Added};
+ghost use Rattle.pool_breaches.specs.Passing.{Completes, BreachesMarked, Sighted, Added};
 
 // After some records: how many faults were counted, and whether rules 8 and 9 are now read off marks under the records.
 struct Passed {
@@ -41,7 +41,7 @@ fn mark_all(
     endless: &mut [u8],
 )
     requires { ⌜ Names (now p) (now starts) (now heads) (now next) × Blank (now again) × Blank (now endless) × (length (now starts) ≤ 8 * length (now again)) × (length (now starts) ≤ 8 * length (now endless)) ⌝ }
-    ensures { λ _. ⌜ Marked (now (p .entry)) (now (starts .entry)) (now (again .exit)) (now (endless .exit)) ⌝ }
+    ensures { λ _. ⌜ BreachesMarked (now (p .entry)) (now (starts .entry)) (now (again .exit)) (now (endless .exit)) ⌝ }
 {
     chains::mark_repeats(p, starts, again);
     chains::mark_endless(p, starts, heads, next, endless);
@@ -58,8 +58,8 @@ fn settle(
     again: &mut [u8],
     endless: &mut [u8],
 ) -> bool
-    requires { ⌜ Names (now p) (now starts) (now heads) (now next) × (length (now starts) ≤ 8 * length (now again)) × (length (now starts) ≤ 8 * length (now endless)) × (full ≡ true → Marked (now p) (now starts) (now again) (now endless)) × (full ≡ false → Blank (now again) × Blank (now endless)) ⌝ }
-    ensures { λ r. ⌜ (r ≡ true → Marked (now (p .entry)) (now (starts .entry)) (now (again .exit)) (now (endless .exit))) × (r ≡ false → (full ≡ false) × (unusual ≡ false) × Blank (now (again .exit)) × Blank (now (endless .exit))) ⌝ }
+    requires { ⌜ Names (now p) (now starts) (now heads) (now next) × (length (now starts) ≤ 8 * length (now again)) × (length (now starts) ≤ 8 * length (now endless)) × (full ≡ true → BreachesMarked (now p) (now starts) (now again) (now endless)) × (full ≡ false → Blank (now again) × Blank (now endless)) ⌝ }
+    ensures { λ r. ⌜ (r ≡ true → BreachesMarked (now (p .entry)) (now (starts .entry)) (now (again .exit)) (now (endless .exit))) × (r ≡ false → (full ≡ false) × (unusual ≡ false) × Blank (now (again .exit)) × Blank (now (endless .exit))) ⌝ }
 {
     if full {
         return true;

@@ -1,7 +1,7 @@
 -- The whole listing from what checking answers. Assumes nothing.
 use mathlib.Core.Path.{_≡_, refl, sym, ap, subst, _∙_}
 use mathlib.Core.List.{List, _++_}
-use mathlib.Core.Bool.{Bool, true, false}
+use mathlib.Core.Bool.{Bool, true, false, cond}
 use Prim.Native.Nat.{ℕ, _+_, _≤_, _<_}
 use native.Mathlib.Omega.{arith}
 use borrow.Author.Tests.{eq-eqb, ne-eqb, eqb-true}
@@ -9,7 +9,7 @@ use lib.Dec.{eqb}
 use lib.ListN.{length, take}
 use lib.Seq.{length-take-le}
 use Rattle.pool.specs.Answer.{answer}
-use Rattle.pool.specs.Reading.{Entry, scanOf, entriesIn, readOf, pick}
+use Rattle.pool.specs.Reading.{Entry, scanOf, entriesIn, readOf}
 use Rattle.pool.specs.Walk.{entriesOf, Divided, Listed}
 use Rattle.pool.proofs.Judged.{read-counted}
 use Rattle.rules.specs.Table.{breachesOf}
@@ -30,7 +30,7 @@ read : (p : List ℕ) → checkOf p 2048 .number ≡ 0 → readOf p 2048 .number
 unfolding checkOf
 read p z = go (eqb (readOf p 2048 .number) 0) refl z
   where
-    go : (b : Bool) → eqb (readOf p 2048 .number) 0 ≡ b → pick b (answer 0 (length (breachesOf p))) (readOf p 2048) .number ≡ 0 → readOf p 2048 .number ≡ 0
+    go : (b : Bool) → eqb (readOf p 2048 .number) 0 ≡ b → cond b (answer 0 (length (breachesOf p))) (readOf p 2048) .number ≡ 0 → readOf p 2048 .number ≡ 0
     go true e z = eqb-true (readOf p 2048 .number) 0 e
     go false e z = z
 

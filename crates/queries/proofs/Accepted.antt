@@ -10,7 +10,7 @@ use lib.Dec.{eqb}
 use lib.ListN.{length}
 use Rattle.records.specs.declared.Kind.the-variants.{Dvc}
 use Rattle.pool.specs.Answer.{Answer, answer}
-use Rattle.pool.specs.Reading.{scanOf, entriesIn, pick, readOf}
+use Rattle.pool.specs.Reading.{scanOf, entriesIn, readOf}
 use Rattle.faults.specs.Faults.{Fault, fault}
 use Rattle.naming.specs.Records.{kindAt}
 use Rattle.naming.specs.Naming.{firstOf}
@@ -37,7 +37,7 @@ some-member f [] m e = List·Memᴰ·not-nil m
 some-member f (x ∷ l) m e = omega arith
 
 -- a refusal's number is not 0
-unread : (faults n v : ℕ) → refusalIn (pick (eqb (suc n) 0) (answer 0 faults) (answer (suc n) v)) ≡ 0 → ⊥
+unread : (faults n v : ℕ) → refusalIn (cond (eqb (suc n) 0) (answer 0 faults) (answer (suc n) v)) ≡ 0 → ⊥
 unread faults n v h =
     let d : eqb (suc n) 0 ≡ false = ne-eqb (suc n) 0 (λ (z : suc n ≡ 0). omega arith) in
     let z : suc n ≡ 0 = rw (d, d) at h in
@@ -48,7 +48,7 @@ module _ (p : List ℕ) (room : ℕ) (ok : acceptance p room ≡ 0) where
   unfolding acceptance checkOf countOf
   accepted-read = go (readOf p room .number) (readOf p room .value) ok
     where
-      go : (n v : ℕ) → refusalIn (pick (eqb n 0) (answer 0 (length (breachesOf p))) (answer n v)) ≡ 0 → answer 0 (cond (eqb n 0) v 0) ≡ answer n v
+      go : (n v : ℕ) → refusalIn (cond (eqb n 0) (answer 0 (length (breachesOf p))) (answer n v)) ≡ 0 → answer 0 (cond (eqb n 0) v 0) ≡ answer n v
       go zero v h = refl
       go (suc n) v h = absurd (unread (length (breachesOf p)) n v h)
 
@@ -60,7 +60,7 @@ module _ (p : List ℕ) (room : ℕ) (ok : acceptance p room ≡ 0) where
       none faults h (yes e) = e
       none faults h (no d) = let z : _≡_ {A = ℕ} 24 0 = rw (ne-eqb faults 0 d) at h in absurd (omega arith)
 
-      go : (n v : ℕ) → refusalIn (pick (eqb n 0) (answer 0 (length (breachesOf p))) (answer n v)) ≡ 0 → length (breachesOf p) ≡ 0
+      go : (n v : ℕ) → refusalIn (cond (eqb n 0) (answer 0 (length (breachesOf p))) (answer n v)) ≡ 0 → length (breachesOf p) ≡ 0
       go zero v h = none (length (breachesOf p)) h (ℕ-discrete (length (breachesOf p)) 0)
       go (suc n) v h = absurd (unread (length (breachesOf p)) n v h)
 

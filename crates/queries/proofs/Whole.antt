@@ -1,6 +1,6 @@
 -- A record of a pool that is read lies within it, and so do its texts. Assumes nothing.
 use mathlib.Core.Path.{_≡_, refl, sym, _∙_}
-use mathlib.Core.Bool.{true}
+use mathlib.Core.Bool.{true, cond}
 use mathlib.Core.List.{List, [], _∷_, _++_}
 use Prim.Native.Nat.{ℕ, _+_, _≤_}
 use native.Mathlib.Omega.{arith}
@@ -8,7 +8,7 @@ use borrow.Author.Tests.{leb-true}
 use lib.Dec.{leb, ltb}
 use lib.ListN.{length, getD, take}
 use Rattle.records.specs.Layout.{Field, text, layout, markNumber, markOf, three}
-use Rattle.records.specs.Extents.{pick, fieldEnd, fieldsEnd, markedEnd, extentOf}
+use Rattle.records.specs.Extents.{fieldEnd, fieldsEnd, markedEnd, extentOf}
 use Rattle.records.specs.Places.{behind, behindAll, fieldAt}
 use Rattle.records.specs.declared.Kind.the-variants.{Dvc, Det, Dpd, Dpt, Dvp}
 use Rattle.records.specs.declared.Mark.{Mark}
@@ -30,8 +30,8 @@ last-limit : (fs : List Field) (limit : ℕ) (p : List ℕ) (at e : ℕ) → fie
 unfolding fieldEnd
 last-limit [] limit p at e h =
     let n = getD p at 0 in
-    let whole = pick (leb (at + 1 + n) (length p)) (Ends (at + 1 + n)) Cut in
-    let a = guarded (ltb at (length p)) (pick (leb n limit) whole (LengthOver at)) Cut e cut-ends h in
+    let whole = cond (leb (at + 1 + n) (length p)) (Ends (at + 1 + n)) Cut in
+    let a = guarded (ltb at (length p)) (cond (leb n limit) whole (LengthOver at)) Cut e cut-ends h in
     leb-true n limit (guarded (leb n limit) whole (LengthOver at) e (over-ends at) (a .1) .0)
 last-limit (f ∷ fs) limit p at e h = go (λ (m : ℕ). last-limit fs limit p m e) (fieldEnd f p at) refl h
   where

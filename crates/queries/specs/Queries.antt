@@ -2,7 +2,7 @@
 -- Definitions only.
 use Prim.Native.Nat.{ℕ, zero, suc, _-_, _≤_}
 use mathlib.Core.Path.{_≡_}
-use mathlib.Core.Bool.{Bool, true, false, cond}
+use mathlib.Core.Bool.{cond}
 use mathlib.Core.List.{List, [], _++_}
 use lib.Dec.{eqb}
 use lib.ListN.{length, replicate}
@@ -27,11 +27,6 @@ acceptance p room = refusalIn (checkOf p room)
 
 -- ---- texts
 
--- one of two places, by a test
-abbrev pub pickSpan : Bool → Span → Span → Span
-pickSpan true a b = a
-pickSpan false a b = b
-
 -- no bytes, at place 0
 abbrev pub nowhere : Span
 nowhere = record { from = 0; to = 0 }
@@ -39,11 +34,11 @@ nowhere = record { from = 0; to = 0 }
 -- a record's text by the number of its kind: the designator, of a value presentation the unit text
 unfoldable pub textIn : List ℕ → ℕ → ℕ → Span
 textIn p kind at =
-    pickSpan (eqb kind 1) (deviceOf p at .designator)
-    (pickSpan (eqb kind 2) (elementOf p at .designator)
-    (pickSpan (eqb kind 3) (processDataOf p at .designator)
-    (pickSpan (eqb kind 4) (propertyOf p at .designator)
-    (pickSpan (eqb kind 5) (presentationOf p at .unit) nowhere))))
+    cond (eqb kind 1) (deviceOf p at .designator)
+    (cond (eqb kind 2) (elementOf p at .designator)
+    (cond (eqb kind 3) (processDataOf p at .designator)
+    (cond (eqb kind 4) (propertyOf p at .designator)
+    (cond (eqb kind 5) (presentationOf p at .unit) nowhere))))
 
 -- the number, from 1, of the first record that has an ID, 0 for none. Any ID may be asked for, 65535 too
 abbrev pub carrier : List Entry → ℕ → ℕ
@@ -62,7 +57,7 @@ textNumber p room id =
 -- where the text stands in the pool; a refusal has no bytes, at place 0
 unfoldable pub textSpan : List ℕ → ℕ → ℕ → Span
 textSpan p room id =
-    pickSpan (eqb (acceptance p room) 0) (textOfRecord p (entriesIn (scanOf p)) (carrier (entriesIn (scanOf p)) id)) nowhere
+    cond (eqb (acceptance p room) 0) (textOfRecord p (entriesIn (scanOf p)) (carrier (entriesIn (scanOf p)) id)) nowhere
 
 -- the bytes of the text
 unfoldable pub textOf : List ℕ → ℕ → ℕ → List ℕ

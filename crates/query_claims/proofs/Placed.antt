@@ -1,5 +1,5 @@
 -- The records of a division by their number: where each starts, its kind and its ID. Assumes nothing.
-use mathlib.Core.Path.{_≡_, refl, sym, ap, subst, _∙_}
+use mathlib.Core.Path.{_≡_, refl, sym, ap, _∙_}
 use mathlib.Core.Logic.{⊎-elim}
 use mathlib.Core.List.{List, [], _∷_, _++_, append-assoc, List·Memᴰ, List·Memᴰ·head, List·Memᴰ·tail, List·Memᴰ·not-nil, List·Memᴰ·cases-cons}
 use Prim.Native.Nat.{ℕ, zero, suc, _+_, _≤_, _<_}
@@ -7,6 +7,7 @@ use native.Mathlib.Omega.{arith}
 use native.Mathlib.Nat.{add-zero, zero-add}
 use lib.ListN.{length, getD, take, drop, length-append}
 use lib.Seq.{take-at}
+use Rattle.wire.specs.Parts.{joined}
 use Rattle.wire.specs.Bytes.{leOf}
 use Rattle.records.specs.Layout.{mark, markOf, kindNumber}
 use Rattle.records.specs.declared.Kind.{Kind}
@@ -14,7 +15,7 @@ use Rattle.records.specs.declared.Kind.the-variants.{Dvc, Det, Dpd, Dpt, Dvp}
 use Rattle.records.specs.declared.Mark.{Mark}
 use Rattle.records.specs.declared.Mark.the-variants.{Of, Unknown}
 use Rattle.division.specs.Whole.{Whole}
-use Rattle.division.specs.Division.{AllWhole, joined, Division}
+use Rattle.division.specs.Division.{AllWhole, Division}
 use Rattle.division.specs.Written.{Written, dvc, det, dpd, dpt, dvp}
 use Rattle.division.proofs.Marks.{mark-length, mark-of}
 use Rattle.division.proofs.Written.{whole-are-written}

@@ -9,6 +9,7 @@ use native.Mathlib.Decide.{ℕ-discrete}
 use borrow.Author.Tests.{ne-eqb}
 use lib.Dec.{eqb}
 use lib.ListN.{length, take, drop, replicate}
+use Rattle.wire.specs.Parts.{joined}
 use Rattle.wire.specs.Bytes.{leOf}
 use Rattle.records.specs.Layout.{kindNumber}
 use Rattle.records.specs.declared.Kind.{Kind}
@@ -17,7 +18,7 @@ use Rattle.records.specs.declared.Span.{Span}
 use Rattle.records.specs.declared.Device.{Device}
 use Rattle.views.specs.Fields.{partOf, deviceOf, elementOf, processDataOf, propertyOf, presentationOf}
 use Rattle.division.specs.Whole.{Whole}
-use Rattle.division.specs.Division.{joined, Division}
+use Rattle.division.specs.Division.{Division}
 use Rattle.division.specs.Written.{Written, dvc, det, dpd, dpt, dvp}
 use Rattle.text.specs.Examined.{soundText, Sound}
 use Rattle.text.proofs.Examining.{examined}

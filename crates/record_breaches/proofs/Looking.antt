@@ -1,6 +1,6 @@
 -- What one look at a record tells. Assumes nothing.
 use mathlib.Core.Path.{_≡_, refl, sym, ap, _∙_}
-use mathlib.Core.Bool.{true, not, _||_}
+use mathlib.Core.Bool.{true, not, _||_, and-false}
 use mathlib.Core.List.{List}
 use Prim.Native.Nat.{ℕ, zero, suc, _+_, _-_}
 use native.Mathlib.Omega.{arith}
@@ -20,7 +20,7 @@ use Rattle.naming.specs.Records.{startAt}
 use Rattle.naming.specs.Naming.{named, kindOf}
 use Rattle.rules.specs.Table.{badSource, dataRows, propertyRows, presentedRows, kindRows}
 use Rattle.field_rules.proofs.ByKind.{data-rows, property-rows}
-use Rattle.field_rules.proofs.Clearing.{and-false, data-clear, property-clear}
+use Rattle.field_rules.proofs.Clearing.{data-clear, property-clear}
 
 -- ---- a presentation
 

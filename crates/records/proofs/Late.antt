@@ -1,6 +1,6 @@
 -- Testing late gives the same extents: one law over every layout. Assumes nothing.
 use mathlib.Core.Path.{_≡_, refl, sym, ap, _∙_}
-use mathlib.Core.Bool.{Bool, true, false}
+use mathlib.Core.Bool.{Bool, true, false, cond}
 use mathlib.Core.List.{List, [], _∷_}
 use Prim.Native.Nat.{ℕ, _+_, _*_, _≤_, _<_}
 use native.Mathlib.Omega.{arith}
@@ -9,7 +9,7 @@ use lib.Dec.{leb, ltb}
 use lib.ListN.{length, getD}
 use Rattle.wire.specs.Bytes.{numberAt}
 use Rattle.records.specs.Layout.{Field, fixed, text, entries}
-use Rattle.records.specs.Extents.{pick, fieldEnd, next, fieldsEnd}
+use Rattle.records.specs.Extents.{fieldEnd, next, fieldsEnd}
 use Rattle.records.specs.Late.{lateField, lateNext, lateFields, closed}
 use Rattle.records.specs.declared.Extent.{Extent}
 use Rattle.records.specs.declared.Extent.the-variants.{Ends, NoMark, Cut, LengthOver}
@@ -33,10 +33,10 @@ past-end (entries ∷ fs) p at h = rw (lt-leb (at + 2) (length p) (omega arith))
 
 -- an end that is tested at once, or at the end of the fields behind it
 late-end : (fs : List Field) (p : List ℕ) (e : ℕ) → (e ≤ length p → fieldsEnd fs p (Ends e) ≡ closed p (lateFields fs p (Ends e)))
-    → fieldsEnd fs p (pick (leb e (length p)) (Ends e) Cut) ≡ closed p (lateFields fs p (Ends e))
+    → fieldsEnd fs p (cond (leb e (length p)) (Ends e) Cut) ≡ closed p (lateFields fs p (Ends e))
 late-end fs p e rest = go (leb e (length p)) refl
   where
-    go : (b : Bool) → leb e (length p) ≡ b → fieldsEnd fs p (pick b (Ends e) Cut) ≡ closed p (lateFields fs p (Ends e))
+    go : (b : Bool) → leb e (length p) ≡ b → fieldsEnd fs p (cond b (Ends e) Cut) ≡ closed p (lateFields fs p (Ends e))
     go true t = rest (leb-true e (length p) t)
     go false t = stays fs p Cut cut-ends ∙ sym (past-end fs p e (leb-false e (length p) t))
 
@@ -49,7 +49,7 @@ late (text limit ∷ fs) p at h = go (late fs p (at + 1 + getD p at 0)) (ltb at 
     e : ℕ
     e = at + 1 + getD p at 0
 
-    go : (e ≤ length p → fieldsEnd fs p (Ends e) ≡ closed p (lateFields fs p (Ends e))) → (b c : Bool) → fieldsEnd fs p (pick b (pick c (pick (leb e (length p)) (Ends e) Cut) (LengthOver at)) Cut) ≡ closed p (lateFields fs p (pick b (pick c (Ends e) (LengthOver at)) Cut))
+    go : (e ≤ length p → fieldsEnd fs p (Ends e) ≡ closed p (lateFields fs p (Ends e))) → (b c : Bool) → fieldsEnd fs p (cond b (cond c (cond (leb e (length p)) (Ends e) Cut) (LengthOver at)) Cut) ≡ closed p (lateFields fs p (cond b (cond c (Ends e) (LengthOver at)) Cut))
     go rest true true = late-end fs p e rest
     go rest true false = stays fs p (LengthOver at) (over-ends at) ∙ sym (late-stays-over fs p at)
     go rest false c = stays fs p Cut cut-ends ∙ sym (late-stays-cut fs p)
@@ -58,6 +58,6 @@ late (entries ∷ fs) p at h = go (late fs p (at + 2 + 2 * numberAt 2 p at)) (le
     e : ℕ
     e = at + 2 + 2 * numberAt 2 p at
 
-    go : (e ≤ length p → fieldsEnd fs p (Ends e) ≡ closed p (lateFields fs p (Ends e))) → (b : Bool) → fieldsEnd fs p (pick b (pick (leb e (length p)) (Ends e) Cut) Cut) ≡ closed p (lateFields fs p (pick b (Ends e) Cut))
+    go : (e ≤ length p → fieldsEnd fs p (Ends e) ≡ closed p (lateFields fs p (Ends e))) → (b : Bool) → fieldsEnd fs p (cond b (cond (leb e (length p)) (Ends e) Cut) Cut) ≡ closed p (lateFields fs p (cond b (Ends e) Cut))
     go rest true = late-end fs p e rest
     go rest false = stays fs p Cut cut-ends ∙ sym (late-stays-cut fs p)

@@ -1,6 +1,6 @@
 -- A record that ends, ends behind its mark and within the pool, its fields where the layout says. Assumes nothing.
 use mathlib.Core.Path.{_≡_, refl, sym, ap, _∙_}
-use mathlib.Core.Bool.{Bool, true, false}
+use mathlib.Core.Bool.{Bool, true, false, cond}
 use mathlib.Core.List.{List, [], _∷_}
 use Prim.Native.Nat.{ℕ, _+_, _*_, _≤_, _<_}
 use native.Mathlib.Omega.{arith}
@@ -9,7 +9,7 @@ use lib.Dec.{leb, ltb}
 use lib.ListN.{length, getD}
 use Rattle.wire.specs.Bytes.{numberAt}
 use Rattle.records.specs.Layout.{Field, fixed, text, entries, layout, markOf, three}
-use Rattle.records.specs.Extents.{pick, fieldEnd, next, fieldsEnd, markedEnd, extentOf}
+use Rattle.records.specs.Extents.{fieldEnd, next, fieldsEnd, markedEnd, extentOf}
 use Rattle.records.specs.Places.{behind, behindAll}
 use Rattle.records.specs.declared.Kind.{Kind}
 use Rattle.records.specs.declared.Kind.the-variants.{Dvc, Det, Dpd, Dpt, Dvp}
@@ -32,7 +32,7 @@ pub ends-inj : (m e : ℕ) → Ends m ≡ Ends e → m ≡ e
 ends-inj m e h = cc
 
 -- a test that guards an end held, and the end is the one given
-pub guarded : (b : Bool) (x y : Extent) (e : ℕ) → ((m : ℕ) → y ≡ Ends m → ⊥) → pick b x y ≡ Ends e → (b ≡ true) × (x ≡ Ends e)
+pub guarded : (b : Bool) (x y : Extent) (e : ℕ) → ((m : ℕ) → y ≡ Ends m → ⊥) → cond b x y ≡ Ends e → (b ≡ true) × (x ≡ Ends e)
 guarded true x y e never h = (refl, h)
 guarded false x y e never h = absurd (never e h)
 
@@ -55,14 +55,14 @@ field-ends (fixed n) p at e h =
     omega (arith, leb-true (at + n) (length p) (g .0), ends-inj (at + n) e (g .1))
 field-ends (text limit) p at e h =
     let n = getD p at 0 in
-    let whole = pick (leb (at + 1 + n) (length p)) (Ends (at + 1 + n)) Cut in
-    let a = guarded (ltb at (length p)) (pick (leb n limit) whole (LengthOver at)) Cut e cut-ends h in
+    let whole = cond (leb (at + 1 + n) (length p)) (Ends (at + 1 + n)) Cut in
+    let a = guarded (ltb at (length p)) (cond (leb n limit) whole (LengthOver at)) Cut e cut-ends h in
     let b = guarded (leb n limit) whole (LengthOver at) e (over-ends at) (a .1) in
     let g = guarded (leb (at + 1 + n) (length p)) (Ends (at + 1 + n)) Cut e cut-ends (b .1) in
     omega (arith, leb-true (at + 1 + n) (length p) (g .0), ends-inj (at + 1 + n) e (g .1))
 field-ends entries p at e h =
     let end = at + 2 + 2 * numberAt 2 p at in
-    let a = guarded (leb (at + 2) (length p)) (pick (leb end (length p)) (Ends end) Cut) Cut e cut-ends h in
+    let a = guarded (leb (at + 2) (length p)) (cond (leb end (length p)) (Ends end) Cut) Cut e cut-ends h in
     let g = guarded (leb end (length p)) (Ends end) Cut e cut-ends (a .1) in
     omega (arith, leb-true end (length p) (g .0), ends-inj end e (g .1))
 

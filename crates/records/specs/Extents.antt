@@ -1,6 +1,6 @@
 -- Where a record ends, or what is wrong with it: document 01, "Reading a pool", refusals 3 to 5. Definitions only.
 use Prim.Native.Nat.{ℕ, _+_, _*_}
-use mathlib.Core.Bool.{Bool, true, false}
+use mathlib.Core.Bool.{cond}
 use mathlib.Core.List.{List, [], _∷_}
 use lib.Dec.{leb, ltb}
 use lib.ListN.{length, getD}
@@ -11,21 +11,16 @@ use Rattle.records.specs.declared.Mark.the-variants.{Of, Unknown}
 use Rattle.records.specs.declared.Extent.{Extent}
 use Rattle.records.specs.declared.Extent.the-variants.{Ends, NoMark, Cut, LengthOver}
 
--- one of two extents, by a test
-abbrev pub pick : Bool → Extent → Extent → Extent
-pick true a b = a
-pick false a b = b
-
 -- a field that starts at a place: where it ends, if the pool has all of it. A length byte that is there and over its limit
 -- is refused at its own place, whether or not its text is there
 unfoldable pub fieldEnd : Field → List ℕ → ℕ → Extent
-fieldEnd (fixed n) p at = pick (leb (at + n) (length p)) (Ends (at + n)) Cut
+fieldEnd (fixed n) p at = cond (leb (at + n) (length p)) (Ends (at + n)) Cut
 fieldEnd (text limit) p at =
-    pick (ltb at (length p))
-    (pick (leb (getD p at 0) limit) (pick (leb (at + 1 + getD p at 0) (length p)) (Ends (at + 1 + getD p at 0)) Cut) (LengthOver at))
+    cond (ltb at (length p))
+    (cond (leb (getD p at 0) limit) (cond (leb (at + 1 + getD p at 0) (length p)) (Ends (at + 1 + getD p at 0)) Cut) (LengthOver at))
     Cut
 fieldEnd entries p at =
-    pick (leb (at + 2) (length p)) (pick (leb (at + 2 + 2 * numberAt 2 p at) (length p)) (Ends (at + 2 + 2 * numberAt 2 p at)) Cut) Cut
+    cond (leb (at + 2) (length p)) (cond (leb (at + 2 + 2 * numberAt 2 p at) (length p)) (Ends (at + 2 + 2 * numberAt 2 p at)) Cut) Cut
 
 -- the next field starts where this one ends; the first refusal stands
 abbrev pub next : Field → List ℕ → Extent → Extent
@@ -46,4 +41,4 @@ markedEnd Unknown p at = NoMark
 
 -- the record that starts at a place: one or two bytes are cut whatever they are, three that are no mark are no record
 unfoldable pub extentOf : List ℕ → ℕ → Extent
-extentOf p at = pick (leb (at + 3) (length p)) (markedEnd (markOf (three p at)) p (at + 3)) Cut
+extentOf p at = cond (leb (at + 3) (length p)) (markedEnd (markOf (three p at)) p (at + 3)) Cut

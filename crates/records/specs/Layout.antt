@@ -1,6 +1,6 @@
 -- The five records of annex A: marks, fields and limits, each stated here and nowhere else. Definitions only.
 use Prim.Native.Nat.{ℕ, _+_}
-use mathlib.Core.Bool.{Bool, true, false, _&&_}
+use mathlib.Core.Bool.{Bool, true, false, cond, _&&_}
 use mathlib.Core.List.{List, [], _∷_}
 use lib.Dec.{eqb}
 use lib.ListN.{getD}
@@ -55,20 +55,15 @@ same [] (y ∷ ys) = false
 same (x ∷ xs) [] = false
 same (x ∷ xs) (y ∷ ys) = eqb x y && same xs ys
 
--- one of two marks, by a test
-abbrev pub pickMark : Bool → Mark → Mark → Mark
-pickMark true a b = a
-pickMark false a b = b
-
 -- the kind whose mark the bytes are
 unfoldable pub markOf : List ℕ → Mark
 unfolding mark
 markOf s =
-    pickMark (same s (mark Dvc)) (Of Dvc)
-    (pickMark (same s (mark Det)) (Of Det)
-    (pickMark (same s (mark Dpd)) (Of Dpd)
-    (pickMark (same s (mark Dpt)) (Of Dpt)
-    (pickMark (same s (mark Dvp)) (Of Dvp) Unknown))))
+    cond (same s (mark Dvc)) (Of Dvc)
+    (cond (same s (mark Det)) (Of Det)
+    (cond (same s (mark Dpd)) (Of Dpd)
+    (cond (same s (mark Dpt)) (Of Dpt)
+    (cond (same s (mark Dvp)) (Of Dvp) Unknown))))
 
 -- the three bytes at a place, 0 for one past the end; no mark has a 0
 abbrev pub three : List ℕ → ℕ → List ℕ

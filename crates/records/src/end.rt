@@ -109,6 +109,28 @@ fn close(p: &[u8], e: Extent) -> Extent
     }
 }
 
+// So many bytes, a length byte with its text, and so many bytes more, up to the record's end. Where it would end with an empty text does
+// not wait for the length byte, so that the walk from record to record waits for one load and one sum.
+fn text_within(p: &[u8], at: usize, n: usize, limit: u8, m: usize) -> Extent
+    requires { ⌜ (at ≤ length (now p)) × (n ≤ 16) × (m ≤ 16) ⌝ }
+    ensures { λ r. ⌜ r ≡ closed (now (p .entry)) (lateNext (fixed m) (now (p .entry)) (lateField (text limit) (now (p .entry)) (at + n))) ⌝ }
+{
+    let least = at + n + 1 + m;
+    if p.len() < least {
+        let e = text_behind(p, at, n, limit);
+        return close(p, skip(e, m));
+    }
+    let size = p[at + n];
+    if limit < size {
+        return Extent::LengthOver(at + n);
+    }
+    let end = least + size as usize;
+    if p.len() < end {
+        return Extent::Cut;
+    }
+    Extent::Ends(end)
+}
+
 // ID, designator, software version, NAME, serial number, structure label, localization label, extended label.
 fn dvc_end(p: &[u8], at: usize) -> Extent
     requires { ⌜ at ≤ length (now p) ⌝ }
@@ -124,8 +146,8 @@ fn dvc_end(p: &[u8], at: usize) -> Extent
     close(p, extended)
 }
 
-// ID, type, designator, element number, parent ID, entries.
-fn det_end(p: &[u8], at: usize) -> Extent
+// A device element in a pool that is too short for one: ID, type, designator, element number, parent ID, entries.
+fn det_cut(p: &[u8], at: usize) -> Extent
     requires { ⌜ at ≤ length (now p) ⌝ }
     ensures { λ r. ⌜ r ≡ fieldsEnd (layout Det) (now (p .entry)) (Ends at) ⌝ }
 {
@@ -136,17 +158,41 @@ fn det_end(p: &[u8], at: usize) -> Extent
     close(p, list)
 }
 
+// The same in any pool. As with other records, where it would end with no text and no entry does not wait for the length byte.
+fn det_end(p: &[u8], at: usize) -> Extent
+    requires { ⌜ at ≤ length (now p) ⌝ }
+    ensures { λ r. ⌜ r ≡ fieldsEnd (layout Det) (now (p .entry)) (Ends at) ⌝ }
+{
+    let least = at + 10;
+    if p.len() < least {
+        return det_cut(p, at);
+    }
+    let size = p[at + 3];
+    if 128 < size {
+        return Extent::LengthOver(at + 3);
+    }
+    let entries_at = least + size as usize;
+    if p.len() < entries_at {
+        return Extent::Cut;
+    }
+    let count = wire::pair(p, entries_at - 2);
+    let end = entries_at + 2 * count as usize;
+    if p.len() < end {
+        return Extent::Cut;
+    }
+    Extent::Ends(end)
+}
+
 // ID, DDI, properties, trigger methods, designator, presentation ID.
 fn dpd_end(p: &[u8], at: usize) -> Extent
     requires { ⌜ at ≤ length (now p) ⌝ }
     ensures { λ r. ⌜ r ≡ fieldsEnd (layout Dpd) (now (p .entry)) (Ends at) ⌝ }
 {
-    let designator = text_behind(p, at, 2 + 2 + 1 + 1, 128);
-    let presentation = skip(designator, 2);
-    close(p, presentation)
+    text_within(p, at, 2 + 2 + 1 + 1, 128, 2)
 }
 
-// ID, DDI, value, designator, presentation ID.
+// ID, DDI, value, designator, presentation ID. Not by the same function as process data: the compiler would join the two, and each step
+// would wait longer.
 fn dpt_end(p: &[u8], at: usize) -> Extent
     requires { ⌜ at ≤ length (now p) ⌝ }
     ensures { λ r. ⌜ r ≡ fieldsEnd (layout Dpt) (now (p .entry)) (Ends at) ⌝ }
@@ -161,8 +207,7 @@ fn dvp_end(p: &[u8], at: usize) -> Extent
     requires { ⌜ at ≤ length (now p) ⌝ }
     ensures { λ r. ⌜ r ≡ fieldsEnd (layout Dvp) (now (p .entry)) (Ends at) ⌝ }
 {
-    let unit = text_behind(p, at, 2 + 4 + 4 + 1, 128);
-    close(p, unit)
+    text_within(p, at, 2 + 4 + 4 + 1, 128, 0)
 }
 
 // The fields after a mark.

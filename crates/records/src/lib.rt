@@ -83,35 +83,28 @@ ghost use mathlib.Core.List.{[], _∷_};
 ghost use Rattle.records.specs.Layout.{markNumber, markOf, three};
 ghost use Rattle.records.specs.Extents.{extentOf};
 
-// The kind by the three letters of its mark.
+// The kind by the three letters of its mark. The second and the third are compared as one number.
 fn mark_of(a: u8, b: u8, c: u8) -> Mark
     ensures { λ r. ⌜ r ≡ markOf (a ∷ b ∷ c ∷ []) ⌝ }
 {
     if a != b'D' {
         return Mark::Unknown;
     }
-    if b == b'E' {
-        if c == b'T' {
-            return Mark::Of(Kind::Det);
-        }
-        return Mark::Unknown;
+    let letters = b as u16 + 256 * c as u16;
+    if letters == 0x4450 {
+        return Mark::Of(Kind::Dpd);
     }
-    if b == b'P' {
-        if c == b'D' {
-            return Mark::Of(Kind::Dpd);
-        }
-        if c == b'T' {
-            return Mark::Of(Kind::Dpt);
-        }
-        return Mark::Unknown;
+    if letters == 0x5450 {
+        return Mark::Of(Kind::Dpt);
     }
-    if b == b'V' {
-        if c == b'C' {
-            return Mark::Of(Kind::Dvc);
-        }
-        if c == b'P' {
-            return Mark::Of(Kind::Dvp);
-        }
+    if letters == 0x5445 {
+        return Mark::Of(Kind::Det);
+    }
+    if letters == 0x5056 {
+        return Mark::Of(Kind::Dvp);
+    }
+    if letters == 0x4356 {
+        return Mark::Of(Kind::Dvc);
     }
     Mark::Unknown
 }

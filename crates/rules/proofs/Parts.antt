@@ -1,6 +1,6 @@
 -- The rows of a record by its kind, and that they stand in order. Assumes nothing.
 use mathlib.Core.Path.{_≡_, refl}
-use mathlib.Core.Bool.{Bool, true, false}
+use mathlib.Core.Bool.{Bool, true, false, cond}
 use mathlib.Core.List.{List, [], _++_}
 use Prim.Native.Nat.{ℕ, zero, suc}
 use borrow.Author.Tests.{eqb-true}
@@ -14,7 +14,7 @@ use Rattle.faults.specs.Rows.{Row, inOrder}
 use Rattle.pool.specs.Reading.{Entry}
 use Rattle.naming.specs.Records.{startAt, idAt, kindAt}
 use Rattle.rules.specs.Breach.{Is}
-use Rattle.rules.specs.Table.{repeats, badOwn, ownRows, deviceRows, elementRows, dataRows, propertyRows, valueRows, presentedRows, pickRows, kindRows, rowsOf}
+use Rattle.rules.specs.Table.{repeats, badOwn, ownRows, deviceRows, elementRows, dataRows, propertyRows, valueRows, presentedRows, kindRows, rowsOf}
 
 -- rules 1 and 2 of record i
 abbrev pub ownOf : List Entry → ℕ → List Row
@@ -29,9 +29,9 @@ rowsAs Dpt p es i = propertyRows p (propertyOf p (startAt es i)) ++ presentedRow
 rowsAs Dvp p es i = valueRows p (presentationOf p (startAt es i))
 
 -- what holds of whichever is picked
-pick : (P : List Row → Type 0) (t : Bool) (a b : List Row) → (t ≡ true → P a) → P b → P (pickRows t a b)
-pick P true a b h g = h refl
-pick P false a b h g = g
+whichever : (P : List Row → Type 0) (t : Bool) (a b : List Row) → (t ≡ true → P a) → P b → P (cond t a b)
+whichever P true a b h g = h refl
+whichever P false a b h g = g
 
 module _ (p : List ℕ) (es : List Entry) (i : ℕ) where
   -- what holds of the rows of each kind, and of none, holds of the record's
@@ -39,11 +39,11 @@ module _ (p : List ℕ) (es : List Entry) (i : ℕ) where
   unfolding kindRows
   by-kind P h none =
       let n = kindAt es i in
-      pick P (eqb n 1) (rowsAs Dvc p es i) _ (λ e. h Dvc (eqb-true n 1 e))
-      (pick P (eqb n 2) (rowsAs Det p es i) _ (λ e. h Det (eqb-true n 2 e))
-      (pick P (eqb n 3) (rowsAs Dpd p es i) _ (λ e. h Dpd (eqb-true n 3 e))
-      (pick P (eqb n 4) (rowsAs Dpt p es i) _ (λ e. h Dpt (eqb-true n 4 e))
-      (pick P (eqb n 5) (rowsAs Dvp p es i) [] (λ e. h Dvp (eqb-true n 5 e)) none))))
+      whichever P (eqb n 1) (rowsAs Dvc p es i) _ (λ e. h Dvc (eqb-true n 1 e))
+      (whichever P (eqb n 2) (rowsAs Det p es i) _ (λ e. h Det (eqb-true n 2 e))
+      (whichever P (eqb n 3) (rowsAs Dpd p es i) _ (λ e. h Dpd (eqb-true n 3 e))
+      (whichever P (eqb n 4) (rowsAs Dpt p es i) _ (λ e. h Dpt (eqb-true n 4 e))
+      (whichever P (eqb n 5) (rowsAs Dvp p es i) [] (λ e. h Dvp (eqb-true n 5 e)) none))))
 
   pub as-kind : (k : Kind) → Is es k i → kindRows p es i (kindAt es i) ≡ rowsAs k p es i
   unfolding kindRows

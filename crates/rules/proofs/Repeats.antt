@@ -21,15 +21,15 @@ module _ (key : ℕ → ℕ) (x i n : ℕ) where
   unfolding repeats
   repeats-earlier l k e = go (firstOf key x n) refl
     where
-      pick : (j : ℕ) → firstOf key x n ≡ suc j → Dec (j < i) → (key j ≡ x) × Without key x j → (j : ℕ) × (j < i) × (key j ≡ x)
-      pick j f (yes b) s = (j, b, s .0)
-      pick j f (no b) s =
+      by-order : (j : ℕ) → firstOf key x n ≡ suc j → Dec (j < i) → (key j ≡ x) × Without key x j → (j : ℕ) × (j < i) × (key j ≡ x)
+      by-order j f (yes b) s = (j, b, s .0)
+      by-order j f (no b) s =
           let other : j ≡ i → ⊥ = λ (q : j ≡ i). differ (firstOf key x n) (suc i) e (f ∙ ap suc q) in
           absurd (s .1 i (omega arith) k)
 
       go : (f : ℕ) → firstOf key x n ≡ f → (j : ℕ) × (j < i) × (key j ≡ x)
       go zero f = absurd (first-none key x n f i l k)
-      go (suc j) f = let s = first-some key x n j f in pick j f (decLt j i) (s .1, s .2)
+      go (suc j) f = let s = first-some key x n j f in by-order j f (decLt j i) (s .1, s .2)
 
   pub earlier-repeats : (j : ℕ) → j < i → key j ≡ x → repeats key x i n ≡ true
   unfolding repeats

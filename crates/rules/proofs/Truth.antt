@@ -5,13 +5,10 @@ use mathlib.Core.Logic.{_⊎_, inl, inr}
 use Prim.Native.Nat.{ℕ}
 use borrow.Author.Tests.{eqb-false, ne-eqb, not-true}
 use lib.Dec.{eqb}
+pub use Rattle.wire.proofs.Either.{both}
 
 pub untrue : {X : Type 0} → false ≡ true → X
 untrue e = absurd (true≢false (sym e))
-
-pub both : (a b : Bool) → a && b ≡ true → (a ≡ true) × (b ≡ true)
-both true b e = (refl, e)
-both false b e = untrue e
 
 pub to-both : {a b : Bool} → a ≡ true → b ≡ true → a && b ≡ true
 to-both a b = rw (a, b)

@@ -1,7 +1,7 @@
 -- The rule table as rows of tests, kind by kind, and the breach list. That it lists exactly the breaches, each once and in
 -- order, is proved. Definitions only.
 use Prim.Native.Nat.{ℕ, zero, suc, _+_, _/_, _%_}
-use mathlib.Core.Bool.{Bool, true, false, cond, not, _&&_, _||_}
+use mathlib.Core.Bool.{Bool, cond, not, _&&_, _||_}
 use mathlib.Core.List.{List, [], _∷_, _++_}
 use lib.Dec.{eqb, ltb, leb}
 use lib.ListN.{length, getD}
@@ -134,20 +134,15 @@ elementRows p es i e =
     (λ (m : ℕ). tagOf p es (entryNamed p es (startAt es i) m))
     (e .entries)
 
--- one of two tables, by a test
-abbrev pub pickRows : Bool → List Row → List Row → List Row
-pickRows true a b = a
-pickRows false a b = b
-
 -- the rows of record i behind rules 1 and 2, by the number of its kind
 unfoldable pub kindRows : List ℕ → List Entry → ℕ → ℕ → List Row
 kindRows p es i k =
     let at = startAt es i in
-    pickRows (eqb k 1) (deviceRows p (repeats (kindAt es) 1 i (length es)) (deviceOf p at))
-    (pickRows (eqb k 2) (elementRows p es i (elementOf p at))
-    (pickRows (eqb k 3) (dataRows p (processDataOf p at) ++ presentedRows es (processDataOf p at .presentation))
-    (pickRows (eqb k 4) (propertyRows p (propertyOf p at) ++ presentedRows es (propertyOf p at .presentation))
-    (pickRows (eqb k 5) (valueRows p (presentationOf p at)) []))))
+    cond (eqb k 1) (deviceRows p (repeats (kindAt es) 1 i (length es)) (deviceOf p at))
+    (cond (eqb k 2) (elementRows p es i (elementOf p at))
+    (cond (eqb k 3) (dataRows p (processDataOf p at) ++ presentedRows es (processDataOf p at .presentation))
+    (cond (eqb k 4) (propertyRows p (propertyOf p at) ++ presentedRows es (propertyOf p at .presentation))
+    (cond (eqb k 5) (valueRows p (presentationOf p at)) []))))
 
 -- rule 1: the ID of a record, by the number of its kind
 abbrev pub badOwn : ℕ → ℕ → Bool

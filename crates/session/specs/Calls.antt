@@ -1,7 +1,7 @@
 -- The session calls but for activating: document 01, "One client's session". For each call the value it returns and its reply, and
 -- what it leaves in the memory it was lent. Definitions only.
 use Prim.Native.Nat.{ℕ, _+_, _-_}
-use mathlib.Core.Bool.{Bool, true, false, not, _&&_, _||_}
+use mathlib.Core.Bool.{Bool, false, cond, not, _&&_, _||_}
 use mathlib.Core.List.{List, [], _∷_}
 use lib.Dec.{eqb, ltb}
 use lib.ListN.{length}
@@ -67,36 +67,31 @@ refused s n = record { session = s; reply = reply n 0 }
 abbrev pub done : Session → Told
 done s = record { session = s; reply = reply 0 0 }
 
--- one of two, by a test
-abbrev pub choose {ℓ} : {A : Type ℓ} → Bool → A → A → A
-choose true a b = a
-choose false a b = b
-
 -- any call: 27 before all else
 abbrev pub judged : Session → Told → Told
-judged s t = choose (impossible s) (refused s 27) t
+judged s t = cond (impossible s) (refused s 27) t
 
 -- offering a size, over areas of ls and lk bytes
 unfoldable pub offerOf : Session → ℕ → ℕ → ℕ → Told
 offerOf s size ls lk =
     judged s
-    (choose (eqb size 0 || ltb 65535 size) (refused s 20)
-    (choose (ltb ls size || ltb lk size) (refused s 26)
+    (cond (eqb size 0 || ltb 65535 size) (refused s 20)
+    (cond (ltb ls size || ltb lk size) (refused s 26)
     (done (record { announced = size; received = 0; kept = s .kept; stage = 1; active = s .active }))))
 
 -- transferring a piece into staging of ls bytes
 unfoldable pub transferOf : Session → List ℕ → ℕ → Told
 transferOf s piece ls =
     judged s
-    (choose (not (isOffered s)) (refused s 21)
-    (choose (eqb (length piece) 0 || ltb (s .announced - s .received) (length piece)) (refused s 22)
-    (choose (ltb ls (s .announced)) (refused s 26)
+    (cond (not (isOffered s)) (refused s 21)
+    (cond (eqb (length piece) 0 || ltb (s .announced - s .received) (length piece)) (refused s 22)
+    (cond (ltb ls (s .announced)) (refused s 26)
     (done (record { announced = s .announced; received = s .received + length piece; kept = s .kept; stage = 1; active = s .active })))))
 
 -- staging then has the piece from received on, unless it was refused
 unfoldable pub stagingAfter : Session → List ℕ → List ℕ → List ℕ
 stagingAfter s piece staging =
-    choose (eqb (transferOf s piece (length staging) .reply .number) 0)
+    cond (eqb (transferOf s piece (length staging) .reply .number) 0)
     (sets staging (s .received) piece)
     staging
 
@@ -104,7 +99,7 @@ stagingAfter s piece staging =
 unfoldable pub deactivateOf : Session → Told
 deactivateOf s =
     judged s
-    (choose (eqb (s .active) 0) (refused s 25)
+    (cond (eqb (s .active) 0) (refused s 25)
     (done (record { announced = s .announced; received = s .received; kept = s .kept; stage = s .stage; active = 0 })))
 
 -- deleting: as new

@@ -1,6 +1,6 @@
 -- `charactersIn` is the grammar: it counts what the grammar derives, and nothing else. Assumes nothing.
 use mathlib.Core.Path.{_≡_, refl, sym, ap, subst, _∙_}
-use mathlib.Core.Bool.{Bool, true, false, cond, _&&_}
+use mathlib.Core.Bool.{Bool, true, false, cond, and-false}
 use mathlib.Core.List.{List, [], _∷_, _++_}
 use Prim.Native.Nat.{ℕ, zero, suc, _+_, _-_, _<_, _≤_}
 use native.Mathlib.Nat.{le-trans, le-refl, le-of-suc-le-suc, le-suc, not-suc-le-zero, lt-of-lt-of-le}
@@ -10,9 +10,8 @@ use lib.Dec.{T, leb, ltb, eqb, leb→le, lit<}
 use lib.ListN.{length, getD}
 use lib.Ieee.Fits.{and-l, and-r}
 use lib.Ieee.Bits.{is-true}
-use Rattle.text.proofs.Widths.{and-false}
 use Rattle.text.specs.Octets.{within, row2, row3, row4, width}
-use Rattle.text.specs.Characters.{charactersIn, pick, plus}
+use Rattle.text.specs.Characters.{charactersIn, plus}
 use Rattle.text.specs.Grammar.{Three, e0, e1, ed, ee, Four, f0, f1, f4, Char, one, two, three, four, Text, none, more}
 use Rattle.text.specs.Characters.{Counted, Characters, Malformed}
 
@@ -134,7 +133,7 @@ before k n c s h l ih e =
     subst (λ (x : ℕ). Text (c ++ s) x) (sym (r .2)) (more h (ih s (r .0) l (r .1)))
 
 step : (k a : ℕ) (s : List ℕ) (n : ℕ) → length s ≤ k → Upto k
-    → (w : ℕ) → Wide w a (getD s 0 0) (getD s 1 0) (getD s 2 0) → pick (eqb w 0) Malformed (plus 1 (charactersIn (w - 1) s)) ≡ Characters n → Text (a ∷ s) n
+    → (w : ℕ) → Wide w a (getD s 0 0) (getD s 1 0) (getD s 2 0) → cond (eqb w 0) Malformed (plus 1 (charactersIn (w - 1) s)) ≡ Characters n → Text (a ∷ s) n
 unfolding charactersIn
 step k a s n l ih w bad e = let z : _≡_ {A = ℕ} 0 1 = cc in absurd (omega arith)
 step k a s n l ih w (w1 t) e = before k n (a ∷ []) s (one t) l ih e

@@ -1,23 +1,19 @@
 -- The examiner and the grammar say the same. Assumes nothing.
 use mathlib.Core.Path.{_≡_, refl, sym, ap, _∙_}
-use mathlib.Core.Bool.{Bool, true, false, cond, _&&_, true≢false}
+use mathlib.Core.Bool.{Bool, true, false, cond, _&&_, true≢false, and-false}
 use mathlib.Core.List.{List, [], _∷_}
 use Prim.Native.Nat.{ℕ, suc, _≤_, _<_}
 use native.Mathlib.Omega.{arith}
 use borrow.Author.Tests.{le-leb, leb-true, eqb-true}
 use lib.Dec.{eqb, leb}
+use Rattle.wire.proofs.Either.{both}
 use Rattle.text.specs.Characters.{charactersIn}
 use Rattle.text.specs.Examined.{marked, few, soundText, Sound, Examined}
 use Rattle.text.specs.Characters.{Counted, Characters, Malformed}
 use lib.ListN.{length, getD}
-use Rattle.text.proofs.Widths.{and-false, single}
+use Rattle.text.proofs.Widths.{single}
 use Rattle.text.proofs.Steps.{first-differs}
 use Rattle.text.proofs.Derived.{complete, sound}
-
--- two tests joined
-pub both : (x y : Bool) → x && y ≡ true → (x ≡ true) × (y ≡ true)
-both true y e = (refl, e)
-both false y e = absurd (true≢false (sym e))
 
 -- bytes that do not begin with the mark
 unmarked : (s : List ℕ) → ((rest : List ℕ) → s ≡ 0xEF ∷ 0xBB ∷ 0xBF ∷ rest → ⊥) → marked s ≡ false

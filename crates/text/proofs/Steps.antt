@@ -1,6 +1,6 @@
 -- One character of a text. Assumes nothing.
-use mathlib.Core.Path.{_≡_, refl, sym, ap, _∙_}
-use mathlib.Core.Bool.{Bool, true, false, _&&_}
+use mathlib.Core.Path.{_≡_, refl, ap, _∙_}
+use mathlib.Core.Bool.{Bool, true, false, cond, and-false}
 use mathlib.Core.List.{List, [], _∷_}
 use Prim.Native.Nat.{ℕ, zero, suc, _+_, _-_, _<_, _≤_}
 use native.Mathlib.Omega.{arith}
@@ -10,9 +10,8 @@ use lib.Dec.{eqb}
 use native.Mathlib.Decide.{decLt}
 use lib.ListN.{length, getD, drop, List·getD-eq-default}
 use lib.Seq.{drop-cons, drop-drop, getD-drop}
-use Rattle.text.proofs.Widths.{and-false}
 use Rattle.text.specs.Octets.{width}
-use Rattle.text.specs.Characters.{charactersIn, pick, plus, widthAt}
+use Rattle.text.specs.Characters.{charactersIn, plus, widthAt}
 use Rattle.text.specs.Examined.{marked, few}
 use Rattle.text.specs.Characters.{Counted, Characters, Malformed}
 
@@ -26,7 +25,7 @@ skip (suc k) (a ∷ s) = skip k s
 next : (s : List ℕ) (i j : ℕ) → getD (drop (suc i) s) j 0 ≡ getD s (i + suc j) 0
 next s i j = rw (getD-drop (suc i) s j 0) (ap (λ (k : ℕ). getD s k 0) (omega arith))
 
-here : (s : List ℕ) (i : ℕ) → i < length s → charactersIn 0 (drop i s) ≡ pick (eqb (widthAt s i) 0) Malformed (plus 1 (charactersIn (widthAt s i - 1) (drop (suc i) s)))
+here : (s : List ℕ) (i : ℕ) → i < length s → charactersIn 0 (drop i s) ≡ cond (eqb (widthAt s i) 0) Malformed (plus 1 (charactersIn (widthAt s i - 1) (drop (suc i) s)))
 unfolding charactersIn
 here s i h = rw (drop-cons s i 0, next s i 0, next s i 1, next s i 2)
 

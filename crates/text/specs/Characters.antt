@@ -1,6 +1,6 @@
 -- The characters of a text. Definitions only.
 use Prim.Native.Nat.{ℕ, zero, suc, _+_, _-_}
-use mathlib.Core.Bool.{Bool, true, false}
+use mathlib.Core.Bool.{cond}
 use mathlib.Core.List.{List, [], _∷_}
 use lib.Dec.{eqb}
 use lib.ListN.{getD}
@@ -10,11 +10,6 @@ use Rattle.text.specs.Octets.{width}
 pub data Counted : Type 0 where
   Characters : ℕ → Counted
   Malformed : Counted
-
--- one of two counts, by a test
-abbrev pub pick : Bool → Counted → Counted → Counted
-pick true a b = a
-pick false a b = b
 
 -- n characters before
 abbrev pub plus : ℕ → Counted → Counted
@@ -27,7 +22,7 @@ unfolding width
 charactersIn k [] = Characters 0
 charactersIn zero (a ∷ s) =
     let w = width a (getD s 0 0) (getD s 1 0) (getD s 2 0) in
-    pick (eqb w 0) Malformed (plus 1 (charactersIn (w - 1) s))
+    cond (eqb w 0) Malformed (plus 1 (charactersIn (w - 1) s))
 charactersIn (suc k) (a ∷ s) = charactersIn k s
 
 -- the character that begins at a place of a text; a byte past the end counts as 0, which continues nothing

@@ -1,6 +1,5 @@
-// One text of a pool: whether it is well-formed UTF-8 (RFC 3629), does not begin with the mark EF BB BF and has at most 32
+// One text: whether it is well-formed UTF-8 (RFC 3629), does not begin with the mark EF BB BF and has at most 32
 // characters.
-use records::Span;
 ghost use mathlib.Core.Path.{_≡_};
 ghost use mathlib.Core.Bool.{true, cond, _&&_};
 ghost use mathlib.Core.List.{List};
@@ -199,7 +198,7 @@ fn is_single(p: &[u8], from: usize, n: usize) -> bool
 fn is_sound_part(p: &[u8], from: usize, to: usize) -> bool
     ensures { λ r. ⌜ r ≡ soundText (take (to - from) (drop from (now (p .entry)))) ⌝ }
 {
-    is_sound_slice(views::part(p, Span { from, to }))
+    is_sound_slice(wire::part(p, from, to))
 }
 
 // Whether a text has at most 32 bytes and so many follow where it begins.

@@ -7,13 +7,15 @@ use Rattle.wire.specs.Bytes.{numberAt, signedOf}
 use Rattle.time_log.specs.Layout.{partWidth, placeOf, recordLength}
 use Rattle.time_log.specs.declared.Fields.{Fields}
 
--- optional field k as a number, and as a signed one; an absent field is no byte, and so 0
+-- optional field k as a number; an absent field has no byte, and so is 0
 unfoldable pub partAt : ℕ → List ℕ → ℕ → ℕ
 partAt layout s k = numberAt (partWidth layout k) s (placeOf layout k)
 
+-- optional field k as a signed number, as north, east and up are
 abbrev pub signedAt : ℕ → List ℕ → ℕ → ℤ
 signedAt layout s k = signedOf 4 (partAt layout s k)
 
+-- the fields of a record: the time and the days, which are always there, and the optional ones
 abbrev pub fieldsAt : ℕ → List ℕ → Fields
 fieldsAt layout s =
     record {
@@ -30,6 +32,7 @@ fieldsAt layout s =
       «gps_date» = partAt layout s 8;
     }
 
+-- how many values a record has, from its count byte
 abbrev pub countAt : ℕ → List ℕ → ℕ
 countAt layout s = getD s (placeOf layout 9) 0
 
@@ -47,9 +50,10 @@ unfoldable pub signedFrom : ℕ → List ℕ → ℕ → List ℤ
 signedFrom zero s at = []
 signedFrom (suc n) s at = signedOf 4 (numberAt 4 s at) ∷ signedFrom n s (at + 5)
 
--- an ordinal and its value follow each other, so that ordinals and values are each five bytes apart
+-- the ordinals, behind the count byte: an ordinal of one byte and its value of four take turns, so ordinals are five bytes apart
 abbrev pub ordinalsAt : ℕ → List ℕ → List ℕ
 ordinalsAt layout s = spaced 5 (countAt layout s) s (placeOf layout 9 + 1)
 
+-- the values, each behind its ordinal
 abbrev pub valuesAt : ℕ → List ℕ → List ℤ
 valuesAt layout s = signedFrom (countAt layout s) s (placeOf layout 9 + 2)

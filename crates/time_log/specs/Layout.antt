@@ -7,11 +7,12 @@ use lib.ListN.{getD}
 abbrev pub mark : ℕ → ℕ → ℕ
 mark layout k = layout / 2 ^ k % 2
 
--- how many of the marks below k are set, and of all nine
+-- how many of the marks below k are set
 unfoldable pub marksBelow : ℕ → ℕ → ℕ
 marksBelow zero layout = 0
 marksBelow (suc k) layout = mark layout k + marksBelow k layout
 
+-- how many optional fields a layout has: how many of its nine marks are set
 abbrev pub marksSet : ℕ → ℕ
 marksSet layout = marksBelow 9 layout
 

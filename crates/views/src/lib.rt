@@ -27,18 +27,7 @@ fn text(p: &[u8], at: usize) -> Span
 pub fn part<'a>(p: &'a [u8], s: Span) -> &'a [u8]
     ensures { λ r. ⌜ now r ≡ partOf (now (p .entry)) s ⌝ }
 {
-    let from = s.from;
-    let to = s.to;
-    if p.len() < to {
-        if p.len() < from {
-            return &p[0..0];
-        }
-        return &p[from..];
-    }
-    if to < from {
-        return &p[0..0];
-    }
-    &p[from..to]
+    wire::part(p, s.from, s.to)
 }
 
 pub fn device(p: &[u8], at: u16) -> Device

@@ -1,9 +1,9 @@
-// Little-endian numbers in bytes, and copying. Every public function takes any slice, place and number but `number`, `word`,
+// Little-endian numbers in bytes, parts of bytes, and copying. Every public function takes any slice, place and number but `number`, `word`,
 // `pair` and `put`, whose callers know that the bytes are there.
 ghost use mathlib.Core.Path.{_≡_};
-ghost use Prim.Native.Nat.{_+_, _≤_, _<_, _^_};
+ghost use Prim.Native.Nat.{_+_, _-_, _≤_, _<_, _^_};
 ghost use lib.Dec.{leb};
-ghost use lib.ListN.{length, getD};
+ghost use lib.ListN.{length, getD, take, drop};
 ghost use lib.Seq.{sets};
 ghost use Rattle.wire.specs.Bytes.{bytesOf, numberAt, signedOf, bitsOf, laid};
 ghost use Rattle.wire.specs.ReadBack.{Unsigned, Signed32};
@@ -184,6 +184,22 @@ pub fn copy(from: &[u8], to: &mut [u8], at: usize) -> bool
         return true;
     }
     false
+}
+
+// The bytes from one place to another, those that are there; none where the second place stands before the first.
+pub fn part<'a>(s: &'a [u8], from: usize, to: usize) -> &'a [u8]
+    ensures { λ r. ⌜ now r ≡ take (to - from) (drop from (now (s .entry))) ⌝ }
+{
+    if s.len() < to {
+        if s.len() < from {
+            return &s[0..0];
+        }
+        return &s[from..];
+    }
+    if to < from {
+        return &s[0..0];
+    }
+    &s[from..to]
 }
 
 // What is written reads back the same. The function does nothing: its contract is the claim, so that the report names it.

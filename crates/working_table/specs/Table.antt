@@ -1,7 +1,7 @@
 -- The working table as a list of records: document 01, "Reading a pool". Definitions only.
 use Prim.Native.Nat.{ℕ}
 use mathlib.Core.Path.{_≡_}
-use mathlib.Core.Bool.{Bool, true, false}
+use mathlib.Core.Bool.{cond}
 use mathlib.Core.List.{List, map}
 use lib.Dec.{eqb}
 use lib.ListN.{length}
@@ -19,15 +19,10 @@ recordOf e = record { start = e .start; length = e .size; kind = e .kind; id = e
 abbrev pub blank : Record
 blank = record { start = 0; length = 0; kind = 0; id = 0 }
 
--- one of two tables, by a test
-abbrev pub pickRecords : Bool → List Record → List Record → List Record
-pickRecords true a b = a
-pickRecords false a b = b
-
 -- the table after reading: one entry for each record from its start where the pool is read, later entries as they were; else
 -- unchanged. It has room for as many records as it has entries
 unfoldable pub recordsAfter : List ℕ → List Record → List Record
-recordsAfter p table = pickRecords (eqb (readOf p (length table) .number) 0) (sets table 0 (map recordOf (entriesIn (scanOf p)))) table
+recordsAfter p table = cond (eqb (readOf p (length table) .number) 0) (sets table 0 (map recordOf (entriesIn (scanOf p)))) table
 
 -- what reading answers, and the table before and after it
 abbrev pub Reads : List ℕ → Outcome → List Record → List Record → Type 0

@@ -9,7 +9,7 @@ use native.Mathlib.Omega.{arith}
 use borrow.Author.Tests.{eq-eqb, ne-eqb}
 use lib.Dec.{eqb}
 use lib.ListN.{length, getD}
-use Rattle.chains.specs.Noted.{Marked}
+use Rattle.chains.specs.Noted.{HitsMarked}
 use Rattle.chains.proofs.Noting.{marked-start, marked-pass, marked-hit, marked-is}
 use Rattle.chains.proofs.mark_left.Statement.{statement}
 use Rattle.chains.proofs.mark_left.Tie as tie
@@ -25,7 +25,7 @@ pass : (ups : List ℕ) (i : ℕ) → getD ups (i + 1) 0 ≡ 0 → leaves ups i 
 pass ups i e = ap not (eq-eqb (getD ups (suc i) 0) 0 (rw (add-one i) at e))
 
 abbrev Inv-loop : tie.InvT-loop
-Inv-loop ups count marks₀ i₀ marks i = (i ≤ count) × (length marks ≡ length marks₀) × Marked (leaves ups) i marks
+Inv-loop ups count marks₀ i₀ marks i = (i ≤ count) × (length marks ≡ length marks₀) × HitsMarked (leaves ups) i marks
 
 abbrev μ-loop : tie.MeasureT-loop
 μ-loop ups count marks₀ i₀ marks i = count - i
@@ -55,7 +55,7 @@ loop-again : tie.Need-loop-again Inv-loop μ-loop
 loop-again c =
     let a = c .before .before .before .before .before .before .args in
     let l = c .before .before .before .loop in
-    let Next : List ℕ → Type 0 = λ (m : List ℕ). (length m ≡ length (a .marks .now)) × Marked (leaves (a .ups .now)) (l .i + 1) m in
+    let Next : List ℕ → Type 0 = λ (m : List ℕ). (length m ≡ length (a .marks .now)) × HitsMarked (leaves (a .ups .now)) (l .i + 1) m in
     let on : Next (c .if1 .marks) =
     ⊎-elim
     (λ w. subst Next (sym (w .5)) (w .2 .ensures .0 ∙ l .inv .1, marked-hit (leaves (a .ups .now)) (l .i) (l .marks) (l .inv .2) (hit (a .ups .now) (l .i) (w .0 .taken)) (w .2 .last .0) (w .2 .ensures .0) (w .2 .ensures .1)))

@@ -12,7 +12,7 @@ use Rattle.pool.specs.Reading.{Entry}
 use Rattle.pool.specs.Walk.{entriesOf}
 use Rattle.naming.specs.Records.{kindAt}
 use Rattle.rules.specs.Table.{repeats, elementKey}
-use Rattle.chains.specs.Noted.{Noted, Marked}
+use Rattle.chains.specs.Noted.{Noted, HitsMarked}
 use Rattle.chains.proofs.Noting.{noted-start, marked-start, marked-pass, marked-hit, marked-is}
 use Rattle.chains.proofs.mark_numbers.Statement.{statement}
 use Rattle.chains.proofs.mark_numbers.Tie as tie
@@ -23,7 +23,7 @@ repeated p es i = eqb (kindAt es i) 2 && repeats (elementKey p es) (elementKey p
 
 abbrev Inv-loop : tie.InvT-loop
 Inv-loop p starts numbers₀ marks₀ count i₀ numbers marks i =
-    (i ≤ count) × (length numbers ≡ length numbers₀) × Noted 65536 (elementKey p (entriesOf p starts)) i numbers × (length marks ≡ length marks₀) × Marked (repeated p (entriesOf p starts)) i marks
+    (i ≤ count) × (length numbers ≡ length numbers₀) × Noted 65536 (elementKey p (entriesOf p starts)) i numbers × (length marks ≡ length marks₀) × HitsMarked (repeated p (entriesOf p starts)) i marks
 
 abbrev μ-loop : tie.MeasureT-loop
 μ-loop p starts numbers₀ marks₀ count i₀ numbers marks i = count - i
@@ -55,7 +55,7 @@ loop-again c =
     let l = c .before .before .before .before .before .before .loop in
     let es = entriesOf (a .p .now) (a .starts .now) in
     let told = c .before .before .before .repeats-number .ensures in
-    let Next : List ℕ → Type 0 = λ (m : List ℕ). (length m ≡ length (a .marks .now)) × Marked (repeated (a .p .now) es) (l .i + 1) m in
+    let Next : List ℕ → Type 0 = λ (m : List ℕ). (length m ≡ length (a .marks .now)) × HitsMarked (repeated (a .p .now) es) (l .i + 1) m in
     let on : Next (c .if1 .marks) =
     ⊎-elim
     (λ w. subst Next (sym (w .5)) (w .2 .ensures .0 ∙ l .inv .3, marked-hit (repeated (a .p .now) es) (l .i) (l .marks) (l .inv .4) (sym (told .0) ∙ w .0 .taken) (w .2 .last .0) (w .2 .ensures .0) (w .2 .ensures .1)))

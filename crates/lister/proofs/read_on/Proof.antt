@@ -5,7 +5,7 @@ use native.Mathlib.Omega.{arith}
 use borrow.Author.Needs.{needs}
 use lib.IntN.{ℤ, natAbs}
 use Rattle.lister.specs.declared.Input.the-variants.{More}
-use Rattle.lister.specs.Reading.{readOn}
+use Rattle.lister.specs.Reading.{inputAfter}
 use Rattle.lister.proofs.Reading.{negative, plain, ended, above, came}
 use Rattle.lister.proofs.read_on.Statement.{statement}
 use Rattle.lister.proofs.read_on.Tie as tie
@@ -31,7 +31,7 @@ returns-3 c =
     let t = plain (c .before .before .before .args .got) (c .before .before .before .fits .got) (c .before .before .if1 .left) in
     ap (λ (k : ℕ). More (c .before .before .before .args .n + k)) (ap natAbs (t .machine))
     ∙ came (c .before .before .before .args .n) (t .size) (c .before .before .before .args .room) (rw (t .machine) at (c .before .if2 .left)) (rw (t .machine) at (c .if3 .taken))
-    ∙ ap (λ (z : ℤ). readOn (c .before .before .before .args .n) z (c .before .before .before .args .room)) (sym (t .is))
+    ∙ ap (λ (z : ℤ). inputAfter (c .before .before .before .args .n) z (c .before .before .before .args .room)) (sym (t .is))
 
 returns-4 : tie.Need-returns-4
 returns-4 c =

@@ -1,23 +1,15 @@
 -- `session::is_impossible` meets its contract: the tests are the definition's, in its order. Assumes nothing.
-use mathlib.Core.Path.{_≡_, refl}
-use mathlib.Core.Bool.{Bool, true, false, not, _&&_, _||_}
+use mathlib.Core.Path.{_≡_}
+use mathlib.Core.Bool.{Bool, not, _&&_, _||_, or-assoc, or-false}
 use mathlib.Core.List.{List, [], _∷_}
 use lib.Dec.{eqb, ltb}
 use Rattle.session.specs.Calls.{isOffered, isActive, anyOf, impossible}
 use Rattle.session.proofs.is_impossible.Statement.{statement}
 use Rattle.session.proofs.is_impossible.Tie as tie
 
-or-assoc : (a b c : Bool) → ((a || b) || c) ≡ (a || (b || c))
-or-assoc true b c = refl
-or-assoc false b c = refl
-
-or-none : (a : Bool) → (a || false) ≡ a
-or-none true = refl
-or-none false = refl
-
 -- tests joined from the left, and as a list
 joined : (a b c d f g h i j : Bool) → (((((((a || b) || (c || d)) || f) || g) || h) || i) || j) ≡ anyOf (a ∷ b ∷ c ∷ d ∷ f ∷ g ∷ h ∷ i ∷ j ∷ [])
-joined a b c d f g h i j = simp (or-assoc, or-none)
+joined a b c d f g h i j = simp (or-assoc, or-false)
 
 returns : tie.Need-returns
 unfolding impossible

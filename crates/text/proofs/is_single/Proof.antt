@@ -1,10 +1,8 @@
 -- `text::is_single` meets its contract. Assumes nothing.
-use mathlib.Core.Path.{_≡_}
 use Prim.Native.Nat.{ℕ, zero, suc, _+_, _-_, _*_, _≤_, _<_}
-use native.Mathlib.Omega.{arith}
 use borrow.Author.Needs.{needs}
 use lib.ListN.{getD}
-use Rattle.text.proofs.Examining.{both}
+use Rattle.wire.proofs.Either.{both}
 use Rattle.text.proofs.Words.{covered}
 use Rattle.text.proofs.is_single.Statement.{statement}
 use Rattle.text.proofs.is_single.Tie as tie

@@ -1,4 +1,4 @@
--- `views::part` meets its contract: the bytes of a span, cut at the pool's end. Assumes nothing.
+-- `wire::part` meets its contract: the bytes are cut at the end of the slice. Assumes nothing.
 use mathlib.Core.Path.{_≡_, refl, sym, _∙_}
 use mathlib.Core.List.{List, []}
 use Prim.Native.Nat.{ℕ, _-_, _<_, _≤_}
@@ -6,10 +6,10 @@ use native.Mathlib.Omega.{arith}
 use lib.ListN.{length, take, drop, length-drop, drop-of-length-le}
 use lib.Seq.{take-all, take-nil}
 use borrow.Author.Needs.{needs}
-use Rattle.views.proofs.part.Statement.{statement}
-use Rattle.views.proofs.part.Tie as tie
+use Rattle.wire.proofs.part.Statement.{statement}
+use Rattle.wire.proofs.part.Tie as tie
 
--- a span that starts behind the pool's end, one that ends there, and one that ends before it starts
+-- a part that starts behind the end of the slice, one that ends there, and one that ends before it starts
 behind : (p : List ℕ) (from to : ℕ) → length p < from → [] ≡ take (to - from) (drop from p)
 behind p from to h = sym (rw (drop-of-length-le p {i = from} (omega arith)) (take-nil {A = ℕ} (to - from)))
 
@@ -31,7 +31,7 @@ part-result-end : tie.Need-part-result-end
 part-result-end c = search needs
 
 returns : tie.Need-returns
-returns c = behind ((c .before .before .before .args .p) .now) ((c .before .before .before .args .s) .from) ((c .before .before .before .args .s) .to) (c .before .if2 .taken)
+returns c = behind (c .before .before .before .args .s .now) (c .before .before .before .args .from) (c .before .before .before .args .to) (c .before .if2 .taken)
 
 sub-result-2 : tie.Need-sub-result-2
 sub-result-2 c = search needs
@@ -43,7 +43,7 @@ part-result-end-2 : tie.Need-part-result-end-2
 part-result-end-2 c = search needs
 
 returns-2 : tie.Need-returns-2
-returns-2 c = beyond ((c .before .before .before .args .p) .now) ((c .before .before .before .args .s) .from) ((c .before .before .before .args .s) .to) (c .before .before .if1 .taken)
+returns-2 c = beyond (c .before .before .before .args .s .now) (c .before .before .before .args .from) (c .before .before .before .args .to) (c .before .before .if1 .taken)
 
 sub-result-3 : tie.Need-sub-result-3
 sub-result-3 c = search needs
@@ -55,7 +55,7 @@ part-result-end-3 : tie.Need-part-result-end-3
 part-result-end-3 c = search needs
 
 returns-3 : tie.Need-returns-3
-returns-3 c = backward ((c .before .before .before .args .p) .now) ((c .before .before .before .args .s) .from) ((c .before .before .before .args .s) .to) (c .before .if3 .taken)
+returns-3 c = backward (c .before .before .before .args .s .now) (c .before .before .before .args .from) (c .before .before .before .args .to) (c .before .if3 .taken)
 
 part-result-start-4 : tie.Need-part-result-start-4
 part-result-start-4 c = search needs
