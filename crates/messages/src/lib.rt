@@ -8,6 +8,7 @@ ghost use Rattle.messages.specs.Layout.{carriesValue, headBytes, acknowl
 ghost use Rattle.messages.specs.Reading.{fieldsOf, readOf};
 ghost use Rattle.messages.specs.Writing.{numberOf, valueRefusal, valueAfter, acknowledgeRefusal, acknowledgeAfter};
 ghost use Rattle.messages.specs.Back.{ReadsBack};
+ghost use Rattle.messages.specs.Worked.{WorkedMessages};
 
 // What reading gives: a value message, an acknowledge, or why there is none. The refusals are 30 and 31.
 pub enum Message {
@@ -146,4 +147,9 @@ pub fn number_of(written: Written) -> u32
 // What is written reads back the same. The function does nothing: its contract is the claim, so that the report names it.
 pub fn messages_read_back()
     ensures { λ _. ⌜ ReadsBack ⌝ }
+{}
+
+// Two worked messages, which fix the order of the bytes. This function does nothing either.
+pub fn worked_messages_hold()
+    ensures { λ _. ⌜ WorkedMessages ⌝ }
 {}
