@@ -81,7 +81,7 @@ BENDS = {
     ("c_functions", "terminal"): ("bottom", 0, [], "top", -230),
     ("c_functions", "book"): ("top", 40, [-0.5, 997], "left", -9),
     ("query_claims", "device_pool"): ("right", 0, [1002, 1.5], "top", 30),
-    ("query_claims", "book"): ("right", 12, [992], "left", 3),
+    ("query_claims", "book"): ("right", -12, [992], "left", 3),
     ("c_sessions", "terminal"): ("left", 9, [], "top", 330),
     ("c_sessions", "book"): ("right", 0, [1143], "right", 0),
     ("c_answers", "session"): ("right", 9, [838], "left", 0),
