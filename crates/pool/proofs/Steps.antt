@@ -47,9 +47,9 @@ onto-proper e (refused a) h = h
 
 turn-proper : (rest : ℕ → Scan) → ((at : ℕ) → Proper (rest at)) → (p : List ℕ) (at : ℕ) (x : Extent) → Proper (turn rest p at x)
 turn-proper rest h p at (Ends end) = onto-proper (entryAt p at end) (rest end) (h end)
-turn-proper rest h p at NoMark = unmarked at
-turn-proper rest h p at Cut = cut at
-turn-proper rest h p at (LengthOver place) = over place
+turn-proper rest h p at NoMark = unmarked _
+turn-proper rest h p at Cut = cut _
+turn-proper rest h p at (LengthOver place) = over _
 
 more-proper : (b : Bool) (s : Scan) → Proper s → Proper (more b s)
 more-proper true s h = h
@@ -139,9 +139,9 @@ next-of p at rs h m = by-turns (m .turns) (m .enough) (m .reads)
 
     by-extent : (t : ℕ) → length p ≤ at + suc t → (x : Extent) → extentOf p at ≡ x → turn (scanFrom t p) p at x ≡ records rs → Next p at rs
     by-extent t l (Ends e) q g = by-scan t e l q (scanFrom t p e) refl g
-    by-extent t l NoMark q g = absurd (refusal (answer 3 at) g)
-    by-extent t l Cut q g = absurd (refusal (answer 4 at) g)
-    by-extent t l (LengthOver o) q g = absurd (refusal (answer 5 o) g)
+    by-extent t l NoMark q g = absurd (refusal _ g)
+    by-extent t l Cut q g = absurd (refusal _ g)
+    by-extent t l (LengthOver o) q g = absurd (refusal _ g)
 
     by-turns : (t : ℕ) → length p ≤ at + t → scanFrom t p at ≡ records rs → Next p at rs
     by-turns zero l e = absurd (omega arith)
