@@ -19,7 +19,7 @@ PICTURE = 1295, 1105
 
 # Each layer: its name in lines, its first row and its last.
 LAYERS = [
-    (["claims about C"], 0, 0),
+    (["claims about", "C and texts"], 0, 0),
     (["programs,", "C boundary"], 1, 1),
     (["interface"], 2, 2),
     (["accepted pools,", "sessions, logs,", "messages"], 3, 5),
@@ -31,6 +31,7 @@ LAYERS = [
 # Each crate: its column, its row and what it holds, in a few words.
 BOXES = {
     "c_functions": ("exchange", 0, "what C is promised"),
+    "query_claims": ("table", 0, "texts and labels"),
     "c_sessions": ("claim", 0, "the one claim, of C"),
     "terminal": ("exchange", 1, "the C boundary, a static library"),
     "lister": ("lines", 1, "the program"),
@@ -44,7 +45,6 @@ BOXES = {
     "presentation": ("exchange", 3, "displayed values"),
     "judging": ("spine", 3, "commands judged"),
     "cases": ("claim", 3, "worked cases"),
-    "query_claims": ("table", 3, "texts and labels"),
     "log_reading": ("log", 4, "log records, logs"),
     "messages": ("exchange", 4, "process data"),
     "queries": ("spine", 4, "texts and labels"),
@@ -79,14 +79,14 @@ CLAIMS = {"c_functions", "c_sessions", "query_claims", "cases", "book", "claims"
 # which side and how far from its middle.
 BENDS = {
     ("c_functions", "terminal"): ("bottom", 0, [], "top", -230),
-    ("c_functions", "book"): ("right", -9, [997], "left", -9),
+    ("c_functions", "book"): ("top", 40, [-0.5, 997], "left", -9),
+    ("query_claims", "device_pool"): ("right", 0, [1002, 1.5], "top", 30),
+    ("query_claims", "book"): ("right", -12, [992], "left", 3),
     ("c_sessions", "terminal"): ("left", 9, [], "top", 330),
     ("c_sessions", "book"): ("right", 0, [1143], "right", 0),
     ("c_answers", "session"): ("right", 9, [838], "left", 0),
     ("cases", "judging"): ("left", -9, [1000, 2.5], "top", 50),
     ("cases", "pool_listing"): ("top", 40, [], "left", 9),
-    ("query_claims", "queries"): ("bottom", 0, [], "right", 0),
-    ("query_claims", "claims"): ("bottom", 40, [5.4], "top", -30),
     ("pool_listing", "checker"): ("left", -9, [826], "right", -15),
     ("listing", "records"): ("right", 0, [1284, 14.5], "bottom", 40),
     ("decimal", "wire"): ("bottom", 0, [], "right", 12),
@@ -100,6 +100,7 @@ BENDS = {
     ("claims", "checker"): ("left", 6, [], "right", 6),
     ("claims", "presentation"): ("left", -9, [998, 5.56, 460], "right", 0),
     ("pool_breaches", "chains"): ("left", 0, [], "top", 0),
+    ("record_breaches", "marks"): ("left", 0, [388], "left", 0),
     ("chains", "rules"): ("bottom", 30, [10.5], "top", -30),
     ("rules", "faults"): ("right", 0, [], "left", 0),
     ("rules", "text"): ("bottom", -30, [11.5], "top", 0),

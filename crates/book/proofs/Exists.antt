@@ -8,7 +8,8 @@ use borrow.Author.Tests.{not-true, not-false, eqb-true}
 use lib.Dec.{eqb, ltb}
 use lib.ListN.{length, take}
 use Rattle.pool.specs.Answer.{Answer, answer}
-use Rattle.pool.specs.Reading.{Scan, records, refused, Cause, unmarked, cut, over, counted, scanOf, readOf}
+use Rattle.pool.specs.Reading.{Scan, records, refused, counted, scanOf, readOf}
+use Rattle.pool.proofs.Steps.{Refusal, unmarked, cut, over, Proper, scan-proper}
 use Rattle.pool.proofs.Judged.{read-walk}
 use Rattle.rules.specs.Table.{breachesOf}
 use Rattle.checker.specs.Checking.{checkOf}
@@ -40,11 +41,14 @@ data Shape : Answer → Type 0 where
   shape-many : Shape (answer 6 0)
   shape-short : (n : ℕ) → Shape (answer 7 n)
 
-shape-counted : (room : ℕ) (s : Scan) → Shape (counted room s)
-shape-counted room (refused unmarked at) = shape-mark at
-shape-counted room (refused cut at) = shape-cut at
-shape-counted room (refused over at) = shape-over at
-shape-counted room (records es) = go (ltb 8192 (length es)) (ltb room (length es))
+shape-refused : {a : Answer} → Refusal a → Shape a
+shape-refused (unmarked at) = shape-mark at
+shape-refused (cut at) = shape-cut at
+shape-refused (over at) = shape-over at
+
+shape-counted : (room : ℕ) (s : Scan) → Proper s → Shape (counted room s)
+shape-counted room (refused a) r = shape-refused r
+shape-counted room (records es) r = go (ltb 8192 (length es)) (ltb room (length es))
   where
     go : (a b : Bool) → Shape (cond a (answer 6 0) (cond b (answer 7 (length es)) (answer 0 (length es))))
     go true b = shape-many
@@ -61,7 +65,7 @@ shape-picked n (shape-short m) = shape-short m
 
 shape-checked : (p : List ℕ) (room : ℕ) → 1 ≤ length p → length p ≤ 65535 → Shape (checkOf p room)
 unfolding checkOf
-shape-checked p room some few = rw (read-walk p room some few) (shape-picked (length (breachesOf p)) (shape-counted room (scanOf p)))
+shape-checked p room some few = rw (read-walk p room some few) (shape-picked (length (breachesOf p)) (shape-counted room (scanOf p) (scan-proper p)))
 
 real-decided : (s : Session) (p : List ℕ) (a : Answer) → Shape a → Real (Act.decided s p a)
 real-decided s p a (shape-read n) =

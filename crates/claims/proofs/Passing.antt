@@ -18,7 +18,8 @@ use Rattle.division.specs.Division.{AllWhole}
 use Rattle.division.proofs.Marks.{mark-length, mark-of, three-behind}
 use Rattle.division.proofs.Records.{whole-ends, unmarked-refused, cut-refused, over-refused}
 use Rattle.division.proofs.Unique.{shortest}
-use Rattle.pool.specs.Reading.{Entry, entryAt, Cause, unmarked, cut, over, causeNumber, Scan, records, refused, onto, turn, scanFrom, scanOf}
+use Rattle.pool.specs.Answer.{Answer, answer}
+use Rattle.pool.specs.Reading.{Entry, entryAt, Scan, records, refused, onto, turn, scanFrom, scanOf}
 use Rattle.pool.proofs.Steps.{scan-turn, scan-end}
 use Rattle.claims.specs.Reads.{listed, Bad, Bad.unmarked as bad-mark, Bad.cut as bad-cut, Bad.over as bad-over, Earliest}
 
@@ -52,9 +53,9 @@ onto-none : (es : List Entry) → ontoAll es (records []) ≡ records es
 onto-none [] = refl
 onto-none (e ∷ es) = rw (onto-none es)
 
-onto-refused : (es : List Entry) (c : Cause) (at : ℕ) → ontoAll es (refused c at) ≡ refused c at
-onto-refused [] c at = refl
-onto-refused (e ∷ es) c at = rw (onto-refused es c at)
+onto-refused : (es : List Entry) (a : Answer) → ontoAll es (refused a) ≡ refused a
+onto-refused [] a = refl
+onto-refused (e ∷ es) a = rw (onto-refused es a)
 
 -- bytes that a walk sees alike wherever they stand
 abbrev Walked : List ℕ → (ℕ → Scan) → Type 0
@@ -94,17 +95,15 @@ scan-whole rs w =
     ∙ onto-none (listed rs w 0)
 
 -- ---- a pool with a bad record: bytes that begin with no whole one end the walk
-record Stops (s : List ℕ) (number offset : ℕ) : Type 0 where
-  cause : Cause
-  named : causeNumber cause ≡ number
-  stops : Walked s (λ at. refused cause (at + offset))
+abbrev Stops : List ℕ → ℕ → ℕ → Type 0
+Stops s number offset = Walked s (λ at. refused (answer number (at + offset)))
 
 -- so does an extent that the walk refuses
-stopped : (s : List ℕ) (x : ℕ → Extent) (c : Cause) (q : ℕ) → 0 < length s
+stopped : (s : List ℕ) (x : ℕ → Extent) (number q : ℕ) → 0 < length s
     → ((front : List ℕ) → extentOf (front ++ s) (length front) ≡ x (length front))
-    → ((rest : ℕ → Scan) (p : List ℕ) (at : ℕ) → turn rest p at (x at) ≡ refused c (at + q)) → Walked s (λ at. refused c (at + q))
-stopped s x c q some law due front zero h = absurd (omega arith)
-stopped s x c q some law due front (suc turns) h =
+    → ((rest : ℕ → Scan) (p : List ℕ) (at : ℕ) → turn rest p at (x at) ≡ refused (answer number (at + q))) → Stops s number q
+stopped s x number q some law due front zero h = absurd (omega arith)
+stopped s x number q some law due front (suc turns) h =
     let p : List ℕ = front ++ s in
     scan-turn turns p (length front) (omega (arith, length-append front s))
     ∙ ap (turn (scanFrom turns p) p (length front)) (law front)
@@ -112,34 +111,22 @@ stopped s x c q some law due front (suc turns) h =
 
 bad-stops : (s : List ℕ) (number offset : ℕ) → Bad s number offset → Stops s number offset
 bad-stops s number offset (bad-mark u) =
-    record {
-      cause = unmarked;
-      named = refl;
-      stops = stopped s (λ at. NoMark) unmarked 0 (omega (arith, u .three)) (λ front. unmarked-refused s front u) (λ rest p at. ap (refused unmarked) (omega arith));
-    }
+    stopped s (λ at. NoMark) 3 0 (omega (arith, u .three)) (λ front. unmarked-refused s front u) (λ rest p at. ap (λ (n : ℕ). refused (answer 3 n)) (omega arith))
 bad-stops s number offset (bad-cut some c) =
-    record {
-      cause = cut;
-      named = refl;
-      stops = stopped s (λ at. Cut) cut 0 some (λ front. cut-refused s front c) (λ rest p at. ap (refused cut) (omega arith));
-    }
+    stopped s (λ at. Cut) 4 0 some (λ front. cut-refused s front c) (λ rest p at. ap (λ (n : ℕ). refused (answer 4 n)) (omega arith))
 bad-stops s number offset (bad-over w) =
     let k : List ℕ = mark (w .kind) in
     let l : length s ≡ length k + length (w .bytes ++ (w .over ∷ w .rest)) = ap length (w .stands) ∙ length-append k (w .bytes ++ (w .over ∷ w .rest)) in
-    record {
-      cause = over;
-      named = refl;
-      stops = stopped s (λ at. LengthOver (at + offset)) over offset (omega (arith, mark-length (w .kind))) (λ front. over-refused s front offset w) (λ rest p at. refl);
-    }
+    stopped s (λ at. LengthOver (at + offset)) 5 offset (omega (arith, mark-length (w .kind))) (λ front. over-refused s front offset w) (λ rest p at. refl)
 
-pub scan-bad : (p : List ℕ) (number place : ℕ) → Earliest p number place → (c : Cause) × (causeNumber c ≡ number) × (scanOf p ≡ refused c place)
+pub scan-bad : (p : List ℕ) (number place : ℕ) → Earliest p number place → scanOf p ≡ refused (answer number place)
 unfolding scanOf
 scan-bad p number place e =
     let b = bad-stops (e .rest) number (e .offset) (e .bad) in
     let es : List Entry = listed (e .before) (e .whole) 0 in
     let at : 0 + length (joined (e .before)) + e .offset ≡ place = omega (arith, e .at) in
-    let end : ℕ → Scan = λ n. refused (b .cause) (n + e .offset) in
+    let end : ℕ → Scan = λ n. refused (answer number (n + e .offset)) in
     let all : List ℕ = joined (e .before) ++ e .rest in
-    let walked : scanFrom (length all) all 0 ≡ ontoAll es (refused (b .cause) place) =
-    rw at at (walk-past (e .rest) end (b .stops) (e .before) (e .whole) [] (length all) (omega arith)) in
-    (b .cause, b .named, rw (e .same) (walked ∙ onto-refused es (b .cause) place))
+    let walked : scanFrom (length all) all 0 ≡ ontoAll es (refused (answer number place)) =
+    rw at at (walk-past (e .rest) end b (e .before) (e .whole) [] (length all) (omega arith)) in
+    rw (e .same) (walked ∙ onto-refused es (answer number place))

@@ -54,8 +54,7 @@ module _ (p : List ℕ) (room : ℕ) where
 
   read-bad : (number place : ℕ) → Sized p × Earliest p number place → readOf p room ≡ answer number place
   read-bad number place (s, e) =
-      let b = scan-bad p number place e in
-      read-walk p room (s .0) (s .1) ∙ rw (b .2, b .1)
+      read-walk p room (s .0) (s .1) ∙ rw (scan-bad p number place e)
 
   -- ---- what each answer says
   Said : Answer → Type 0

@@ -8,10 +8,12 @@ use working_table::Record;
 ghost use mathlib.Core.Path.{_≡_};
 ghost use Prim.Native.Nat.{_≤_};
 ghost use lib.ListN.{length};
+ghost use denote.Ref.{ptr};
+ghost use Rattle.wire.specs.Parts.{placeIn};
 ghost use Rattle.pool.specs.Walk.{Reaches, Listed};
 ghost use Rattle.working_table.specs.Table.{recordsAfter};
 ghost use Rattle.checker.specs.Checking.{countOf};
-ghost use Rattle.queries.specs.Queries.{textNumber, textOf, Finds, Labelled};
+ghost use Rattle.queries.specs.Queries.{textNumber, textSpan, textOf, Finds, Labelled};
 
 // An answer, beside how many records are listed.
 pub struct Found {
@@ -92,10 +94,10 @@ pub fn find_text(p: &[u8], table: &mut [Record], id: u32) -> Place
     find_text_long(p, table, id)
 }
 
-// The text of the first record with an ID, as a slice of the pool that was lent. The number tells a refusal from a text
-// without bytes.
+// The text of the first record with an ID, as a slice of the pool that was lent: also where it is empty it points to where the text
+// stands, and after a refusal to the pool's start. The number tells a refusal from a text without bytes.
 pub fn text<'a>(p: &'a [u8], table: &mut [Record], id: u32, number: &mut u32) -> &'a [u8]
-    ensures { λ r. ⌜ (now r ≡ textOf (now (p .entry)) (length (now (table .entry))) id) × (now (number .exit) ≡ textNumber (now (p .entry)) (length (now (table .entry))) id) × (now (table .exit) ≡ recordsAfter (now (p .entry)) (now (table .entry))) ⌝ }
+    ensures { λ r. ⌜ (now r ≡ textOf (now (p .entry)) (length (now (table .entry))) id) × (ptr r ≡ placeIn (p .entry) (textSpan (now (p .entry)) (length (now (table .entry))) id .from)) × (now (number .exit) ≡ textNumber (now (p .entry)) (length (now (table .entry))) id) × (now (table .exit) ≡ recordsAfter (now (p .entry)) (now (table .entry))) ⌝ }
 {
     let place = find_text(p, table, id);
     queries::text_at(p, place, number)

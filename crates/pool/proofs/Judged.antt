@@ -12,12 +12,12 @@ use lib.ListN.{length, take}
 use lib.Seq.{length-take-le}
 use types.Run.{OneOf}
 use Rattle.pool.specs.Answer.{Answer, answer, answerOf}
-use Rattle.pool.specs.Reading.{Entry, Cause, unmarked, cut, over, causeNumber, Scan, records, refused, scanOf, entriesIn, counted, readOf}
+use Rattle.pool.specs.Reading.{Entry, Scan, records, refused, scanOf, entriesIn, counted, readOf}
 use Rattle.pool.specs.Walk.{countFrom, entriesOf, Starts, Listed}
 use Rattle.pool.specs.declared.Outcome.{Outcome}
 use Rattle.pool.specs.declared.Outcome.the-variants.{Records, Empty, TooLong, NoMark, Cut, LengthOver, TooMany, TableShort}
 use Rattle.pool.proofs.Outcome.{the-type}
-use Rattle.pool.proofs.Steps.{cause-number, few-records}
+use Rattle.pool.proofs.Steps.{refusal-number, Proper, scan-proper, few-records}
 
 pub read-empty : (p : List ℕ) (room : ℕ) → length p ≡ 0 → readOf p room ≡ answer 1 0
 unfolding readOf
@@ -32,15 +32,15 @@ unfolding readOf
 read-walk p room a b = rw (ne-eqb (length p) 0 (λ (z : length p ≡ 0). omega arith), le-ltb 65535 (length p) b)
 
 -- a count that a walk answers is its records'
-pub walk-count : (n : ℕ) (s : Scan) → answer 0 n ≡ countFrom 0 s → (s ≡ records (entriesIn s)) × (length (entriesIn s) ≡ n)
-walk-count n (records es) e =
+pub walk-count : (n : ℕ) (s : Scan) → Proper s → answer 0 n ≡ countFrom 0 s → (s ≡ records (entriesIn s)) × (length (entriesIn s) ≡ n)
+walk-count n (records es) h e =
     let z : n ≡ 0 + length es = ap (λ (a : Answer). a .value) e in
     (refl, omega arith)
-walk-count n (refused c at) e = absurd (cause-number c (sym (ap (λ (a : Answer). a .number) e)))
+walk-count n (refused a) h e = absurd (refusal-number h (sym (ap (λ (a : Answer). a .number) e)))
 
-pub walk-counted : (room n : ℕ) (s : Scan) → answer 0 n ≡ countFrom 0 s → counted room s ≡ cond (ltb 8192 n) (answer 6 0) (cond (ltb room n) (answer 7 n) (answer 0 n))
-walk-counted room n s e =
-    let w = walk-count n s e in
+pub walk-counted : (room n : ℕ) (s : Scan) → Proper s → answer 0 n ≡ countFrom 0 s → counted room s ≡ cond (ltb 8192 n) (answer 6 0) (cond (ltb room n) (answer 7 n) (answer 0 n))
+walk-counted room n s h e =
+    let w = walk-count n s h e in
     ap (counted room) (w .0) ∙ rw (w .1)
 
 -- an outcome that is no count has a refusal's number
@@ -64,7 +64,7 @@ no-count (TableShort n) j f = omega arith
 
 -- a walk that answers no count is refused as reading is
 pub walk-refused : (room : ℕ) (s : Scan) (w : Outcome) → NoCount w → answerOf w ≡ countFrom 0 s → answerOf w ≡ counted room s
-walk-refused room (refused c at) w k e = e
+walk-refused room (refused a) w k e = e
 walk-refused room (records es) w k e = absurd (no-count w k (ap (λ (a : Answer). a .number) e))
 
 -- an answer with number 0 is a count
@@ -90,11 +90,11 @@ unfolding readOf
 read-counted p room n e =
     let first = picked (eqb (length p) 0) (answer 1 0) (cond (ltb 65535 (length p)) (answer 2 0) (counted room (scanOf p))) n (λ (z : 1 ≡ 0). omega arith) e in
     let second = picked (ltb 65535 (length p)) (answer 2 0) (counted room (scanOf p)) n (λ (z : 2 ≡ 0). omega arith) (first .1) in
-    go (eqb-false (length p) 0 (first .0)) (ltb-false 65535 (length p) (second .0)) (scanOf p) refl (second .1)
+    go (eqb-false (length p) 0 (first .0)) (ltb-false 65535 (length p) (second .0)) (scanOf p) (scan-proper p) refl (second .1)
   where
-    go : (length p ≡ 0 → ⊥) → length p ≤ 65535 → (s : Scan) → scanOf p ≡ s → answer 0 n ≡ counted room s → Counted p room n
-    go a b (refused c at) x f = absurd (cause-number c (sym (ap (λ (y : Answer). y .number) f)))
-    go a b (records es) x f =
+    go : (length p ≡ 0 → ⊥) → length p ≤ 65535 → (s : Scan) → Proper s → scanOf p ≡ s → answer 0 n ≡ counted room s → Counted p room n
+    go a b (refused y) h x f = absurd (refusal-number h (sym (ap (λ (y : Answer). y .number) f)))
+    go a b (records es) h x f =
         let l = length es in
         let six = picked (ltb 8192 l) (answer 6 0) (cond (ltb room l) (answer 7 l) (answer 0 l)) n (λ (z : 6 ≡ 0). omega arith) f in
         let seven = picked (ltb room l) (answer 7 l) (answer 0 l) n (λ (z : 7 ≡ 0). omega arith) (six .1) in

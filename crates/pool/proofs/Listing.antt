@@ -10,9 +10,9 @@ use Rattle.records.specs.Extents.{extentOf}
 use Rattle.records.specs.declared.Extent.the-variants.{Ends}
 use Rattle.records.proofs.Range.{ends-inj}
 use Rattle.pool.specs.Answer.{Answer, answer}
-use Rattle.pool.specs.Reading.{Entry, entryAt, Cause, causeNumber, records, scanOf}
+use Rattle.pool.specs.Reading.{Entry, entryAt, records, scanOf}
 use Rattle.pool.specs.Walk.{countFrom, entriesFrom, entriesOf, Starts}
-use Rattle.pool.proofs.Steps.{Remaining, next-of, none-left, cause-number}
+use Rattle.pool.proofs.Steps.{Remaining, next-of, none-left}
 use Rattle.pool.proofs.Starts.{entries-long, entries-more}
 
 -- what is listed and what is left are the whole
@@ -62,6 +62,6 @@ listing-end p starts at n h room f es e =
     (rw (length-set starts n at, count) room, ap (λ (k : ℕ). entriesOf p (take (suc k) (set starts n at))) count ∙ ap (entriesOf p) (take-suc-set starts n at room) ∙ whole)
 
 -- a walk that is refused lists nothing
-pub listing-refused : (c : Cause) (q : ℕ) (p starts : List ℕ) → answer (causeNumber c) q ≡ countFrom 0 (scanOf p) → Starts p starts
+pub listing-refused : (number place : ℕ) → (number ≡ 0 → ⊥) → (p starts : List ℕ) → answer number place ≡ countFrom 0 (scanOf p) → Starts p starts
 unfolding Starts
-listing-refused c q p starts a es e = absurd (cause-number c (ap (λ (x : Answer). x .number) (a ∙ ap (countFrom 0) e)))
+listing-refused number place some p starts a es e = absurd (some (ap (λ (x : Answer). x .number) (a ∙ ap (countFrom 0) e)))

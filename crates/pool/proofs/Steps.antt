@@ -1,17 +1,19 @@
 -- The walk over a pool's records, turn by turn. Assumes nothing.
 use mathlib.Core.Path.{_≡_, refl, sym, ap, subst, _∙_}
+use mathlib.Core.Bool.{Bool, true, false}
 use mathlib.Core.List.{List, [], _∷_}
 use Prim.Native.Nat.{ℕ, zero, suc, _+_, _*_, _≤_, _<_}
 use native.Mathlib.Omega.{arith}
 use borrow.Author.Tests.{lt-ltb, le-ltb}
 use native.Mathlib.Decide.{decLt}
+use lib.Dec.{ltb}
 use lib.ListN.{length}
 use Rattle.records.specs.Extents.{extentOf}
 use Rattle.records.specs.declared.Extent.{Extent}
 use Rattle.records.specs.declared.Extent.the-variants.{Ends, NoMark, Cut, LengthOver}
 use Rattle.records.proofs.Range.{extent-ends}
 use Rattle.pool.specs.Answer.{Answer, answer}
-use Rattle.pool.specs.Reading.{Entry, entryAt, Cause, unmarked, cut, over, causeNumber, Scan, records, refused, onto, turn, scanFrom, scanOf}
+use Rattle.pool.specs.Reading.{Entry, entryAt, Scan, records, refused, onto, turn, more, scanFrom, scanOf}
 use Rattle.pool.specs.Walk.{countFrom}
 
 pub scan-turn : (t : ℕ) (p : List ℕ) (at : ℕ) → at < length p → scanFrom (suc t) p at ≡ turn (scanFrom t p) p at (extentOf p at)
@@ -23,15 +25,48 @@ unfolding scanFrom
 scan-end zero p at h = refl
 scan-end (suc t) p at h = rw (le-ltb at (length p) h)
 
--- no refusal's number is 0
-pub cause-number : (c : Cause) → causeNumber c ≡ 0 → ⊥
-cause-number unmarked e = omega arith
-cause-number cut e = omega arith
-cause-number over e = omega arith
+-- what is told of a bad record
+pub data Refusal : Answer → Type 0 where
+  unmarked : (at : ℕ) → Refusal (answer 3 at)
+  cut : (at : ℕ) → Refusal (answer 4 at)
+  over : (at : ℕ) → Refusal (answer 5 at)
+
+pub refusal-number : {a : Answer} → Refusal a → a .number ≡ 0 → ⊥
+refusal-number (unmarked at) e = let z : _≡_ {A = ℕ} 3 0 = e in omega arith
+refusal-number (cut at) e = let z : _≡_ {A = ℕ} 4 0 = e in omega arith
+refusal-number (over at) e = let z : _≡_ {A = ℕ} 5 0 = e in omega arith
+
+-- a walk is refused with nothing else
+abbrev pub Proper : Scan → Type 0
+Proper (records es) = Unit {0}
+Proper (refused a) = Refusal a
+
+onto-proper : (e : Entry) (s : Scan) → Proper s → Proper (onto e s)
+onto-proper e (records es) h = tt
+onto-proper e (refused a) h = h
+
+turn-proper : (rest : ℕ → Scan) → ((at : ℕ) → Proper (rest at)) → (p : List ℕ) (at : ℕ) (x : Extent) → Proper (turn rest p at x)
+turn-proper rest h p at (Ends end) = onto-proper (entryAt p at end) (rest end) (h end)
+turn-proper rest h p at NoMark = unmarked _
+turn-proper rest h p at Cut = cut _
+turn-proper rest h p at (LengthOver place) = over _
+
+more-proper : (b : Bool) (s : Scan) → Proper s → Proper (more b s)
+more-proper true s h = h
+more-proper false s h = tt
+
+from-proper : (t : ℕ) (p : List ℕ) (at : ℕ) → Proper (scanFrom t p at)
+unfolding scanFrom
+from-proper zero p at = tt
+from-proper (suc t) p at = more-proper (ltb at (length p)) (turn (scanFrom t p) p at (extentOf p at)) (turn-proper (scanFrom t p) (from-proper t p) p at (extentOf p at))
+
+pub scan-proper : (p : List ℕ) → Proper (scanOf p)
+unfolding scanOf
+scan-proper p = from-proper (length p) p 0
 
 count-onto : (n : ℕ) (e : Entry) (s : Scan) → countFrom n (onto e s) ≡ countFrom (n + 1) s
 count-onto n e (records es) = ap (answer 0) (omega arith)
-count-onto n e (refused k at) = refl
+count-onto n e (refused a) = refl
 
 -- what is known of a walk that stands at a place with n records behind it: its answer is the whole walk's
 pub record Standing (p : List ℕ) (whole : Answer) (at n : ℕ) : Type 0 where
@@ -55,10 +90,10 @@ module _ (p : List ℕ) (whole : Answer) (at n : ℕ) (h : at < length p) where
         answers = sym (count-onto n (entryAt p at e) (scanFrom (s .0) p e)) ∙ (rw x at (s .2));
       }
 
-  pub stopped : (x : Extent) (k : Cause) (q : ℕ) → extentOf p at ≡ x → ((rest : ℕ → Scan) → turn rest p at x ≡ refused k q) → Standing p whole at n → answer (causeNumber k) q ≡ whole
-  stopped x k q e t st =
+  pub stopped : (x : Extent) (a : Answer) → extentOf p at ≡ x → ((rest : ℕ → Scan) → turn rest p at x ≡ refused a) → Standing p whole at n → a ≡ whole
+  stopped x a e t st =
       let s = last-turn (st .turns) (st .enough) (st .answers) in
-      let f : turn (scanFrom (s .0) p) p at (extentOf p at) ≡ refused k q = ap (turn (scanFrom (s .0) p) p at) e ∙ t (scanFrom (s .0) p) in
+      let f : turn (scanFrom (s .0) p) p at (extentOf p at) ≡ refused a = ap (turn (scanFrom (s .0) p) p at) e ∙ t (scanFrom (s .0) p) in
       sym (ap (countFrom n) f) ∙ s .2
 
 pub finished : (p : List ℕ) (whole : Answer) (at n : ℕ) → length p ≤ at → Standing p whole at n → answer 0 n ≡ whole
@@ -97,16 +132,16 @@ next-of p at rs h m = by-turns (m .turns) (m .enough) (m .reads)
           within = r .1;
           rest = record { turns = t; enough = omega arith; reads = y };
         }
-    by-scan t e l x (refused k q) y g = let z : _≡_ {A = ℕ} 0 1 = cc in absurd (omega arith)
+    by-scan t e l x (refused a) y g = let z : _≡_ {A = ℕ} 0 1 = cc in absurd (omega arith)
 
-    refusal : (k : Cause) (q : ℕ) → refused k q ≡ records rs → ⊥
-    refusal k q g = let z : _≡_ {A = ℕ} 0 1 = cc in omega arith
+    refusal : (a : Answer) → refused a ≡ records rs → ⊥
+    refusal a g = let z : _≡_ {A = ℕ} 0 1 = cc in omega arith
 
     by-extent : (t : ℕ) → length p ≤ at + suc t → (x : Extent) → extentOf p at ≡ x → turn (scanFrom t p) p at x ≡ records rs → Next p at rs
     by-extent t l (Ends e) q g = by-scan t e l q (scanFrom t p e) refl g
-    by-extent t l NoMark q g = absurd (refusal unmarked at g)
-    by-extent t l Cut q g = absurd (refusal cut at g)
-    by-extent t l (LengthOver o) q g = absurd (refusal over o g)
+    by-extent t l NoMark q g = absurd (refusal _ g)
+    by-extent t l Cut q g = absurd (refusal _ g)
+    by-extent t l (LengthOver o) q g = absurd (refusal _ g)
 
     by-turns : (t : ℕ) → length p ≤ at + t → scanFrom t p at ≡ records rs → Next p at rs
     by-turns zero l e = absurd (omega arith)

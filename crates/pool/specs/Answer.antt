@@ -1,18 +1,10 @@
 -- What reading answers, in the numbers of document 01. Definitions only.
 use Prim.Native.Nat.{ℕ}
+pub use Rattle.records.specs.Answer.{Answer, answer}
 use Rattle.pool.specs.declared.Outcome.{Outcome}
 use Rattle.pool.specs.declared.Outcome.the-variants.{Records, Empty, TooLong, NoMark, Cut, LengthOver, TooMany, TableShort}
 
--- number 0 and the count of records, or a refusal's number and its place
-pub record Answer : Type 0 where
-  pub number : ℕ
-  pub value : ℕ
-
--- an answer by its two numbers
-abbrev pub answer : ℕ → ℕ → Answer
-answer n v = record { number = n; value = v }
-
--- the number and the value that each outcome stands for
+-- the number and the value that each outcome stands for: 0 and the count of records, or a refusal's number and its place
 abbrev pub answerOf : Outcome → Answer
 answerOf (Records count) = answer 0 count
 answerOf Empty = answer 1 0

@@ -6,6 +6,7 @@ use lib.Dec.{eqb, ltb}
 use lib.ListN.{length}
 use Rattle.records.specs.Layout.{markNumber, markOf, three}
 use Rattle.records.specs.Extents.{extentOf}
+use Rattle.records.specs.Answer.{extentAnswer}
 use Rattle.records.specs.Places.{idOf}
 use Rattle.records.specs.declared.Extent.{Extent}
 use Rattle.records.specs.declared.Extent.the-variants.{Ends, NoMark, Cut, LengthOver}
@@ -35,34 +36,22 @@ flat (e ∷ es) = numbers e ++ flat es
 abbrev pub entryAt : List ℕ → ℕ → ℕ → Entry
 entryAt p at end = record { start = at; size = end - at; kind = markNumber (markOf (three p at)); id = idOf p at }
 
--- what is wrong with a record, and its refusal's number
-pub data Cause : Type 0 where
-  unmarked : Cause
-  cut : Cause
-  over : Cause
-
--- the number of a refusal by its cause
-abbrev pub causeNumber : Cause → ℕ
-causeNumber unmarked = 3
-causeNumber cut = 4
-causeNumber over = 5
-
--- a walk over the records: all of them, or the cause and place of the earliest bad one
+-- a walk over the records: all of them, or what is told of the earliest bad one
 pub data Scan : Type 0 where
   records : List Entry → Scan
-  refused : Cause → ℕ → Scan
+  refused : Answer → Scan
 
 -- one record in front of what was found after it
 abbrev pub onto : Entry → Scan → Scan
 onto e (records es) = records (e ∷ es)
-onto e (refused c at) = refused c at
+onto e (refused a) = refused a
 
--- 3 and 4 are placed at the record's start, 5 at the length byte
+-- the walk goes on behind a record, or is refused as the record is
 abbrev pub turn : (ℕ → Scan) → List ℕ → ℕ → Extent → Scan
 turn rest p at (Ends end) = onto (entryAt p at end) (rest end)
-turn rest p at NoMark = refused unmarked at
-turn rest p at Cut = refused cut at
-turn rest p at (LengthOver place) = refused over place
+turn rest p at NoMark = refused (extentAnswer at NoMark)
+turn rest p at Cut = refused (extentAnswer at Cut)
+turn rest p at (LengthOver place) = refused (extentAnswer at (LengthOver place))
 
 -- what is found from a place on, or nothing where the pool ends there
 abbrev pub more : Bool → Scan → Scan
@@ -81,11 +70,11 @@ scanOf p = scanFrom (length p) p 0
 -- the records of a pool, none where it is refused
 abbrev pub entriesIn : Scan → List Entry
 entriesIn (records es) = es
-entriesIn (refused c at) = []
+entriesIn (refused a) = []
 
 -- once all of the pool has been walked: too many records, then too short a table
 abbrev pub counted : ℕ → Scan → Answer
-counted room (refused c at) = answer (causeNumber c) at
+counted room (refused a) = a
 counted room (records es) = cond (ltb 8192 (length es)) (answer 6 0) (cond (ltb room (length es)) (answer 7 (length es)) (answer 0 (length es)))
 
 -- the size is judged before anything else; room is the number of entries that the table has

@@ -4,12 +4,12 @@ use mathlib.Core.Path.{_≡_}
 use mathlib.Core.List.{List, [], _∷_}
 use lib.ListN.{length, take}
 use Rattle.pool.specs.Answer.{Answer, answer}
-use Rattle.pool.specs.Reading.{Entry, entryAt, causeNumber, Scan, records, refused, scanOf, readOf}
+use Rattle.pool.specs.Reading.{Entry, entryAt, Scan, records, refused, scanOf, readOf}
 
 -- a walk's answer after n records
 abbrev pub countFrom : ℕ → Scan → Answer
 countFrom n (records es) = answer 0 (n + length es)
-countFrom n (refused c at) = answer (causeNumber c) at
+countFrom n (refused a) = a
 
 -- the records from a start on, by the starts behind it: each ends where the next one starts
 unfoldable pub entriesFrom : List ℕ → ℕ → List ℕ → List Entry

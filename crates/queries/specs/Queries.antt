@@ -63,6 +63,10 @@ textSpan p room id =
 unfoldable pub textOf : List ℕ → ℕ → ℕ → List ℕ
 textOf p room id = partOf p (textSpan p room id)
 
+-- the bytes that an answer stands for
+abbrev pub spanOf : Place → Span
+spanOf r = record { from = r .from; to = r .to }
+
 -- a query's answer as a place, which lies within the pool whatever the answer is
 pub record Finds (p : List ℕ) (room id : ℕ) (r : Place) : Type 0 where
   pub number : r .number ≡ textNumber p room id

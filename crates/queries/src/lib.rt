@@ -5,10 +5,12 @@ use records::Span;
 ghost use mathlib.Core.Path.{_≡_};
 ghost use Prim.Native.Nat.{_≤_};
 ghost use lib.ListN.{length};
-ghost use Rattle.views.specs.Fields.{partOf, deviceOf};
+ghost use denote.Ref.{ptr};
+ghost use Rattle.wire.specs.Parts.{placeIn};
+ghost use Rattle.views.specs.Fields.{partOf, startIn, deviceOf};
 ghost use Rattle.pool.specs.Walk.{entriesOf, Divided};
 ghost use Rattle.checker.specs.Checking.{verdictOf};
-ghost use Rattle.queries.specs.Queries.{refusalIn, textIn, carrier, Finds, Labelled};
+ghost use Rattle.queries.specs.Queries.{refusalIn, textIn, spanOf, carrier, Finds, Labelled};
 ghost use Rattle.queries.specs.Parts.{FindsAmong, CheckedBy, LabelledBy};
 
 // Where a text stands in the pool, or the number of a refusal with zeros.
@@ -122,7 +124,7 @@ pub fn find_in(p: &[u8], room: usize, starts: &[u16], verdict: Verdict, id: u32)
 
 // A text that was looked for, as a slice of the pool that was lent. The number tells a refusal from a text without bytes.
 pub fn text_at<'a>(p: &'a [u8], place: Place, number: &mut u32) -> &'a [u8]
-    ensures { λ r. ⌜ (now r ≡ partOf (now (p .entry)) (record { from = place .from; to = place .to })) × (now (number .exit) ≡ place .number) ⌝ }
+    ensures { λ r. ⌜ (now r ≡ partOf (now (p .entry)) (spanOf place)) × (now (number .exit) ≡ place .number) × (ptr r ≡ placeIn (p .entry) (startIn (now (p .entry)) (spanOf place))) ⌝ }
 {
     *number = place.number;
     let from = place.from;

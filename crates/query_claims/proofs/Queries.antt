@@ -8,10 +8,11 @@ use native.Mathlib.Omega.{arith}
 use native.Mathlib.Decide.{ℕ-discrete}
 use borrow.Author.Tests.{ne-eqb}
 use lib.Dec.{eqb}
-use lib.ListN.{length, take, drop, replicate}
+use lib.ListN.{length, take, drop, replicate, length-append}
 use Rattle.wire.specs.Parts.{joined}
 use Rattle.wire.specs.Bytes.{leOf}
-use Rattle.records.specs.Layout.{kindNumber}
+use Rattle.records.specs.Layout.{layout, kindNumber}
+use Rattle.records.specs.Places.{fieldAt}
 use Rattle.records.specs.declared.Kind.{Kind}
 use Rattle.records.specs.declared.Kind.the-variants.{Dvc, Det, Dpd, Dpt, Dvp}
 use Rattle.records.specs.declared.Span.{Span}
@@ -26,10 +27,11 @@ use Rattle.pool.specs.Reading.{Entry, scanOf, entriesIn}
 use Rattle.faults.specs.Faults.{fault}
 use Rattle.naming.specs.Records.{startAt, idAt, kindAt}
 use Rattle.naming.specs.Naming.{firstOf}
-use Rattle.naming.proofs.First.{first-none, to-none, to-first}
+use Rattle.naming.proofs.First.{first-none, first-le, to-none, to-first}
 use Rattle.rules.specs.Breach.{Is, Text, device-designator, device-version, device-serial, element-designator, data-designator, property-designator, unit, unsound-text}
 use Rattle.rules.specs.Table.{breachesIn, breachesOf}
 use Rattle.rules.proofs.Listing.{breaches-listed}
+use Rattle.checker.specs.Checking.{countOf}
 use Rattle.claims.specs.Reads.{listed}
 use Rattle.claims.specs.Parts.{Shows}
 use Rattle.claims.proofs.Sorting.{listed-length}
@@ -37,8 +39,8 @@ use Rattle.claims.proofs.Parts.{fields-are-parts}
 use Rattle.claims.proofs.Verdict.{reading}
 use Rattle.queries.specs.Queries as Q
 use Rattle.queries.specs.Queries.{acceptance, carrier, textOfRecord, textNumber, textSpan, textOf, padded, ifAccepted, labelsNumber, deviceIn, startOf, structureLabel, localizationLabel, extendedText, extendedLabel, extendedCount}
-use Rattle.queries.proofs.Accepted.{accepted-clean, some-member}
-use Rattle.query_claims.specs.Texts.{idIn, textIn, textsIn, labelsIn, Has, None, QueriesAreParts, AcceptedQueries}
+use Rattle.queries.proofs.Accepted.{accepted-read, accepted-clean, some-member}
+use Rattle.query_claims.specs.Texts.{idIn, textIn, beforeText, textsIn, labelsIn, Has, None, QueriesAreParts, AcceptedQueries}
 use Rattle.query_claims.proofs.Placed.{id-in, kind-written, written-whole, Placed, placed, Split, split-at, split-of}
 
 -- ---- one record
@@ -51,6 +53,22 @@ span-text p at (det id type d number parent count list l1 l2 l3 l4 l5 l6 l7) h =
 span-text p at (dpd id ddi properties triggers d presentation l1 l2 l3 l4 l5 l6) h = h .4
 span-text p at (dpt id ddi value d presentation l1 l2 l3 l4 l5) h = h .3
 span-text p at (dvp id offset scale decimals u l1 l2 l3 l4 l5) h = h .4
+
+-- where it begins
+span-from : {k : Kind} {r : List ℕ} (p : List ℕ) (at : ℕ) (w : Written k r) → Q.textIn p (kindNumber k) at .from ≡ at + beforeText w
+unfolding Q.textIn deviceOf elementOf processDataOf propertyOf presentationOf fieldAt layout
+span-from p at (dvc id d v name s st lo x l1 l2 l3 l4 l5 l6 l7 l8) = omega arith
+span-from p at (det id type d number parent count list l1 l2 l3 l4 l5 l6 l7) = omega arith
+span-from p at (dpd id ddi properties triggers d presentation l1 l2 l3 l4 l5 l6) = omega arith
+span-from p at (dpt id ddi value d presentation l1 l2 l3 l4 l5) = omega arith
+span-from p at (dvp id offset scale decimals u l1 l2 l3 l4 l5) = omega arith
+
+before-within : {k : Kind} {r : List ℕ} (w : Written k r) → beforeText w ≤ length r
+before-within (dvc id d v name s st lo x l1 l2 l3 l4 l5 l6 l7 l8) = simp length-append (omega arith)
+before-within (det id type d number parent count list l1 l2 l3 l4 l5 l6 l7) = simp length-append (omega arith)
+before-within (dpd id ddi properties triggers d presentation l1 l2 l3 l4 l5 l6) = simp length-append (omega arith)
+before-within (dpt id ddi value d presentation l1 l2 l3 l4 l5) = simp length-append (omega arith)
+before-within (dvp id offset scale decimals u l1 l2 l3 l4 l5) = simp length-append (omega arith)
 
 some : (n : ℕ) → eqb (suc n) 0 ≡ false
 some n = ne-eqb (suc n) 0 (λ (z : suc n ≡ 0). omega arith)
@@ -105,11 +123,15 @@ module _ (p : List ℕ) (room : ℕ) (ok : acceptance p room ≡ 0) where
 
   asked-text : (front : List (List ℕ)) (r : List ℕ) (back : List (List ℕ)) → Division p (front ++ (r ∷ back)) → (k : Kind) (w : Written k r) → None (Has (leOf (idIn w))) front
       → (textNumber p room (leOf (idIn w)) ≡ 0) × (textOf p room (leOf (idIn w)) ≡ textIn w)
+      × (textSpan p room (leOf (idIn w)) .from ≡ length (joined front) + beforeText w)
   unfolding textNumber textOf textSpan
   asked-text front r back d k w none =
       let a = at front r back d in
-      let f = found front r back d k w none in
-      (rw (ok, f, some (length front)), rw (ok, f, is-kind w a, a .start) (span-text p (length (joined front)) w (shows w a)))
+      let f = found front r back d k w none in (
+        rw (ok, f, some (length front)),
+        rw (ok, f, is-kind w a, a .start) (span-text p (length (joined front)) w (shows w a)),
+        rw (ok, f, is-kind w a, a .start) (span-from p (length (joined front)) w),
+      )
 
   asked-none : (rs : List (List ℕ)) → Division p rs → (id : ℕ) → carrier (entriesIn (scanOf p)) id ≡ 0 → None (Has id) rs
   asked-none rs d id e r m (k, w, q) =
@@ -134,6 +156,28 @@ module _ (p : List ℕ) (room : ℕ) (ok : acceptance p room ≡ 0) where
   asked-missing : (rs : List (List ℕ)) → Division p rs → (id : ℕ) → (textNumber p room id ≡ 28) ↔ None (Has id) rs
   unfolding textNumber
   asked-missing rs d id = rw ok ((λ e. asked-none rs d id (number-28 (carrier (entriesIn (scanOf p)) id) e)), (λ none. rw (none-asked rs d id none)))
+
+  -- a text begins within the pool
+  placed-within : {before r after : List ℕ} {i : ℕ} → Placed p (entriesIn (scanOf p)) i before r after
+      → Q.textIn p (kindAt (entriesIn (scanOf p)) i) (startAt (entriesIn (scanOf p)) i) .from ≤ length p
+  placed-within {before} {r} {after} {i} a =
+      let w = written-whole (a .whole) in
+      let from : Q.textIn p (kindAt (entriesIn (scanOf p)) i) (startAt (entriesIn (scanOf p)) i) .from ≡ length before + beforeText w = rw (is-kind w a, a .start) (span-from p (length before) w) in
+      let long : length p ≡ length before + (length r + length after) = ap length (a .pool) ∙ simp length-append in
+      omega (arith, from, long, before-within w)
+
+  begins-within : (id : ℕ) → textSpan p room id .from ≤ length p
+  unfolding textSpan
+  begins-within id = rw ok (go (carrier (entriesIn (scanOf p)) id) (first-le (idAt (entriesIn (scanOf p))) id (length (entriesIn (scanOf p)))))
+    where
+      go : (n : ℕ) → n ≤ length (entriesIn (scanOf p)) → textOfRecord p (entriesIn (scanOf p)) n .from ≤ length p
+      go zero h = omega arith
+      go (suc i) h =
+          let d = reading p room .read (countOf p room) .0 (sym (accepted-read p room ok)) .1 .0 in
+          let l : length (entriesIn (scanOf p)) ≡ length (d .parts) = ap length (reading p room .entries (d .parts) (d .division)) ∙ listed-length (d .parts) (d .division .whole) 0 in
+          let s = split-at (d .parts) i (omega (arith, h, l)) in
+          let a = at (s .front) (s .here) (s .back) (subst (Division p) (s .same) (d .division)) in
+          placed-within (subst (λ (n : ℕ). Placed p (entriesIn (scanOf p)) n (joined (s .front)) (s .here) (joined (s .back))) (s .count) a)
 
   -- ---- every text is sound
 
@@ -212,3 +256,12 @@ accepted-queries p room ok =
       sound = all-sound p room ok;
       labels = asked-labels p room ok;
     }
+
+-- a text begins within the pool, whatever the answer is
+pub text-begins : (p : List ℕ) (room id : ℕ) → textSpan p room id .from ≤ length p
+unfolding textSpan
+text-begins p room id = go (ℕ-discrete (acceptance p room) 0)
+  where
+    go : Dec (acceptance p room ≡ 0) → textSpan p room id .from ≤ length p
+    go (yes e) = begins-within p room e id
+    go (no n) = rw (ne-eqb (acceptance p room) 0 n) (omega arith)

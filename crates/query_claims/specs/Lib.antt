@@ -1,2 +1,3 @@
--- What the contracts of `query_claims` cite.
+-- What the contracts of `query_claims` cite, in the order to read it.
 pub mod Texts
+pub mod Lent

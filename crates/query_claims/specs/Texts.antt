@@ -1,5 +1,5 @@
 -- Texts and labels of an accepted pool, by the records that it divides into and the parts that these are written of. Definitions only.
-use Prim.Native.Nat.{ℕ, _-_}
+use Prim.Native.Nat.{ℕ, _+_, _-_}
 use mathlib.Core.Path.{_≡_}
 use mathlib.Core.Logic.{_↔_}
 use mathlib.Core.List.{List, [], _∷_, _++_, List·Memᴰ}
@@ -7,10 +7,10 @@ use lib.ListN.{length, replicate}
 use Rattle.wire.specs.Bytes.{leOf}
 use Rattle.records.specs.declared.Kind.{Kind}
 use Rattle.records.specs.declared.Kind.the-variants.{Dvc}
-use Rattle.division.specs.Division.{Division}
+use Rattle.division.specs.Division.{joined, Division}
 use Rattle.division.specs.Written.{Written, dvc, det, dpd, dpt, dvp}
 use Rattle.text.specs.Examined.{Sound}
-use Rattle.queries.specs.Queries.{acceptance, textNumber, textOf, labelsNumber, structureLabel, localizationLabel, extendedLabel, extendedCount}
+use Rattle.queries.specs.Queries.{acceptance, textNumber, textSpan, textOf, labelsNumber, structureLabel, localizationLabel, extendedLabel, extendedCount}
 
 -- the two bytes of a record's ID
 abbrev pub idIn : {k : Kind} {r : List ℕ} → Written k r → List ℕ
@@ -27,6 +27,14 @@ textIn (det id type designator number parent count list a b c d e f g) = designa
 textIn (dpd id ddi properties triggers designator presentation a b c d e f) = designator
 textIn (dpt id ddi value designator presentation a b c d e) = designator
 textIn (dvp id offset scale decimals unit a b c d e) = unit
+
+-- how many bytes of the record stand before that text: the letters, the parts in front of it, and its length byte
+abbrev pub beforeText : {k : Kind} {r : List ℕ} → Written k r → ℕ
+beforeText (dvc id designator version name serial structure localization extended a b c d e f g h) = 3 + length id + 1
+beforeText (det id type designator number parent count list a b c d e f g) = 3 + length id + length type + 1
+beforeText (dpd id ddi properties triggers designator presentation a b c d e f) = 3 + length id + length ddi + length properties + length triggers + 1
+beforeText (dpt id ddi value designator presentation a b c d e) = 3 + length id + length ddi + length value + 1
+beforeText (dvp id offset scale decimals unit a b c d e) = 3 + length id + length offset + length scale + length decimals + 1
 
 -- all its texts
 abbrev pub textsIn : {k : Kind} {r : List ℕ} → Written k r → List (List ℕ)
@@ -60,9 +68,10 @@ None P rs = (r : List ℕ) → List·Memᴰ r rs → P r → ⊥
 
 -- texts and labels asked of an accepted pool
 pub record QueriesAreParts (p : List ℕ) (room : ℕ) : Type 0 where
-  -- an ID stands for the first record that has it, and what is given are the bytes of that record's text
+  -- an ID stands for the first record that has it, and what is given are the bytes of that record's text, also an empty one by its place
   pub text : (front : List (List ℕ)) (r : List ℕ) (back : List (List ℕ)) → Division p (front ++ (r ∷ back)) → (k : Kind) (w : Written k r) → None (Has (leOf (idIn w))) front
       → (textNumber p room (leOf (idIn w)) ≡ 0) × (textOf p room (leOf (idIn w)) ≡ textIn w)
+      × (textSpan p room (leOf (idIn w)) .from ≡ length (joined front) + beforeText w)
   -- 28 exactly if no record has the ID
   pub missing : (rs : List (List ℕ)) → Division p rs → (id : ℕ) → (textNumber p room id ≡ 28) ↔ None (Has id) rs
   -- every text is sound

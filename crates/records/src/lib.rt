@@ -82,6 +82,7 @@ ghost use mathlib.Core.Path.{_≡_};
 ghost use mathlib.Core.List.{[], _∷_};
 ghost use Rattle.records.specs.Layout.{markNumber, markOf, three};
 ghost use Rattle.records.specs.Extents.{extentOf};
+ghost use Rattle.records.specs.Answer.{extentAnswer, recordAnswer};
 
 // The kind by the three letters of its mark. The second and the third are compared as one number.
 fn mark_of(a: u8, b: u8, c: u8) -> Mark
@@ -124,9 +125,9 @@ fn mark_number(m: Mark) -> u16
     }
 }
 
-// Where the record that starts at a place ends.
+// Where the record that starts at a place ends, also by the numbers of document 01.
 pub fn record_extent(p: &[u8], at: usize) -> Extent
-    ensures { λ r. ⌜ r ≡ extentOf (now (p .entry)) at ⌝ }
+    ensures { λ r. ⌜ (r ≡ extentOf (now (p .entry)) at) × (extentAnswer at r ≡ recordAnswer (now (p .entry)) at) ⌝ }
 {
     if p.len() < at {
         return Extent::Cut;

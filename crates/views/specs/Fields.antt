@@ -1,7 +1,7 @@
 -- The fields of a record by value, in annex A's terms. Definitions only.
-use Prim.Native.Nat.{ℕ, _+_, _-_, _*_}
+use Prim.Native.Nat.{ℕ, _+_, _-_, _*_, min}
 use mathlib.Core.List.{List}
-use lib.ListN.{getD, take, drop}
+use lib.ListN.{length, getD, take, drop}
 use Rattle.wire.specs.Bytes.{numberAt, signedOf}
 use Rattle.records.specs.Layout.{layout}
 use Rattle.records.specs.Places.{fieldAt}
@@ -24,6 +24,10 @@ bytesAt n at = record { from = at; to = at + n }
 -- the bytes that a span takes of a pool
 abbrev pub partOf : List ℕ → Span → List ℕ
 partOf p s = take (s .to - s .from) (drop (s .from) p)
+
+-- how many bytes of a pool are before a span: up to its start, or all of them where it starts past the pool's end
+abbrev pub startIn : List ℕ → Span → ℕ
+startIn p s = min (s .from) (length p)
 
 -- the fields of a device that starts at a place
 unfoldable pub deviceOf : List ℕ → ℕ → Device

@@ -8,8 +8,10 @@ use records::Span;
 use records::ValuePresentation;
 ghost use mathlib.Core.Path.{_≡_};
 ghost use Prim.Native.Nat.{ℕ, _+_, _*_, _≤_, _<_};
+ghost use denote.Ref.{ptr};
 ghost use Rattle.wire.specs.Bytes.{numberAt};
-ghost use Rattle.views.specs.Fields.{textAt, partOf, deviceOf, elementOf, entryOf, processDataOf, propertyOf, presentationOf};
+ghost use Rattle.wire.specs.Parts.{placeIn};
+ghost use Rattle.views.specs.Fields.{textAt, partOf, startIn, deviceOf, elementOf, entryOf, processDataOf, propertyOf, presentationOf};
 
 // The text behind the length byte at a place.
 fn text(p: &[u8], at: usize) -> Span
@@ -23,9 +25,10 @@ fn text(p: &[u8], at: usize) -> Span
     }
 }
 
-// The bytes of a span that lie in the pool.
+// The bytes of a span that lie in the pool, as a slice of the pool that was lent. Also where it is empty it points to the span's start, or
+// to the pool's end where the span starts behind it.
 pub fn part<'a>(p: &'a [u8], s: Span) -> &'a [u8]
-    ensures { λ r. ⌜ now r ≡ partOf (now (p .entry)) s ⌝ }
+    ensures { λ r. ⌜ (now r ≡ partOf (now (p .entry)) s) × (ptr r ≡ placeIn (p .entry) (startIn (now (p .entry)) s)) ⌝ }
 {
     wire::part(p, s.from, s.to)
 }

@@ -1,11 +1,13 @@
 // Little-endian numbers in bytes, parts of bytes, and copying. Every public function takes any slice, place and number but `number`, `word`,
 // `pair` and `put`, whose callers know that the bytes are there.
 ghost use mathlib.Core.Path.{_≡_};
-ghost use Prim.Native.Nat.{_+_, _-_, _≤_, _<_, _^_};
+ghost use Prim.Native.Nat.{_+_, _-_, _≤_, _<_, _^_, min};
 ghost use lib.Dec.{leb};
 ghost use lib.ListN.{length, getD, take, drop};
 ghost use lib.Seq.{sets};
+ghost use denote.Ref.{ptr};
 ghost use Rattle.wire.specs.Bytes.{bytesOf, numberAt, signedOf, bitsOf, laid};
+ghost use Rattle.wire.specs.Parts.{placeIn};
 ghost use Rattle.wire.specs.ReadBack.{Unsigned, Signed32};
 
 // The number in w bytes that are all there: from the highest byte down.
@@ -186,18 +188,20 @@ pub fn copy(from: &[u8], to: &mut [u8], at: usize) -> bool
     false
 }
 
-// The bytes from one place to another, those that are there; none where the second place stands before the first.
+// The bytes from one place to another, those that are there, as a slice of what was lent; none where the second place is before the first.
+// Even an empty part points to the first place, or to the end of the slice where that place is past it.
 pub fn part<'a>(s: &'a [u8], from: usize, to: usize) -> &'a [u8]
-    ensures { λ r. ⌜ now r ≡ take (to - from) (drop from (now (s .entry))) ⌝ }
+    ensures { λ r. ⌜ (now r ≡ take (to - from) (drop from (now (s .entry)))) × (ptr r ≡ placeIn (s .entry) (min from (length (now (s .entry))))) ⌝ }
 {
-    if s.len() < to {
-        if s.len() < from {
-            return &s[0..0];
-        }
+    let end = s.len();
+    if end < from {
+        return &s[end..];
+    }
+    if end < to {
         return &s[from..];
     }
     if to < from {
-        return &s[0..0];
+        return &s[from..from];
     }
     &s[from..to]
 }

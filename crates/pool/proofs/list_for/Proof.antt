@@ -6,6 +6,7 @@ use borrow.Author.Tests.{lt-ltb, le-ltb}
 use lib.ListN.{length}
 use Rattle.pool.specs.Answer.{Answer, answerOf}
 use Rattle.pool.specs.Reading.{scanOf}
+use Rattle.pool.proofs.Steps.{scan-proper}
 use Rattle.pool.proofs.Judged.{read-empty, read-long, read-walk, walk-counted, walk-refused, unlisted, listed}
 use borrow.Author.Needs.{needs}
 use Rattle.pool.proofs.list_for.Statement.{statement}
@@ -36,7 +37,7 @@ returns-3 : tie.Need-returns-3
 returns-3 c =
     let a = c .before .before .before .before .before .before .before .before .before .before .before .before .args in
     let s : 0 < length (a .p .now) = omega (arith, c .before .before .before .before .before .before .before .before .before .if1 .left) in
-    let w = walk-counted (a .room) _ (scanOf (a .p .now)) (sym (ap answerOf (c .before .before .walked .given .1)) ∙ c .before .before .before .before .before .before .scan .ensures .0) in
+    let w = walk-counted (a .room) _ (scanOf (a .p .now)) (scan-proper (a .p .now)) (sym (ap answerOf (c .before .before .walked .given .1)) ∙ c .before .before .before .before .before .before .scan .ensures .0) in
     (sym (read-walk (a .p .now) (a .room) s (c .before .before .before .before .before .before .before .before .if2 .left) ∙ w ∙ rw (lt-ltb 8192 _ (c .if3 .taken))), listed (a .p .now) (a .room) _ (c .before .before .before .before .before .before .scan .ensures .1))
 
 same-length-2 : tie.Need-same-length-2
@@ -46,7 +47,7 @@ returns-4 : tie.Need-returns-4
 returns-4 c =
     let a = c .before .before .before .before .before .before .before .before .before .before .before .before .before .args in
     let s : 0 < length (a .p .now) = omega (arith, c .before .before .before .before .before .before .before .before .before .before .if1 .left) in
-    let w = walk-counted (a .room) _ (scanOf (a .p .now)) (sym (ap answerOf (c .before .before .before .walked .given .1)) ∙ c .before .before .before .before .before .before .before .scan .ensures .0) in
+    let w = walk-counted (a .room) _ (scanOf (a .p .now)) (scan-proper (a .p .now)) (sym (ap answerOf (c .before .before .before .walked .given .1)) ∙ c .before .before .before .before .before .before .before .scan .ensures .0) in
     (sym (read-walk (a .p .now) (a .room) s (c .before .before .before .before .before .before .before .before .before .if2 .left) ∙ w ∙ rw (le-ltb 8192 _ (c .before .if3 .left), lt-ltb (a .room) _ (c .if4 .taken))), listed (a .p .now) (a .room) _ (c .before .before .before .before .before .before .before .scan .ensures .1))
 
 same-length-3 : tie.Need-same-length-3
@@ -56,7 +57,7 @@ returns-5 : tie.Need-returns-5
 returns-5 c =
     let a = c .before .before .before .before .before .before .before .before .before .before .before .before .before .args in
     let s : 0 < length (a .p .now) = omega (arith, c .before .before .before .before .before .before .before .before .before .before .if1 .left) in
-    let w = walk-counted (a .room) _ (scanOf (a .p .now)) (sym (ap answerOf (c .before .before .before .walked .given .1)) ∙ c .before .before .before .before .before .before .before .scan .ensures .0) in
+    let w = walk-counted (a .room) _ (scanOf (a .p .now)) (scan-proper (a .p .now)) (sym (ap answerOf (c .before .before .before .walked .given .1)) ∙ c .before .before .before .before .before .before .before .scan .ensures .0) in
     (sym (read-walk (a .p .now) (a .room) s (c .before .before .before .before .before .before .before .before .before .if2 .left) ∙ w ∙ rw (le-ltb 8192 _ (c .before .if3 .left), le-ltb (a .room) _ (c .if4 .left))), listed (a .p .now) (a .room) _ (c .before .before .before .before .before .before .before .scan .ensures .1))
 
 same-length-4 : tie.Need-same-length-4

@@ -1,12 +1,12 @@
 -- `pool::scan` meets its contract: what is left to walk gives the whole walk's answer, and what is listed and what is
 -- left are the whole. Assumes nothing.
 use mathlib.Core.Path.{_≡_, refl, sym, _∙_}
-use Prim.Native.Nat.{_*_, _-_, _≤_, _<_}
+use Prim.Native.Nat.{ℕ, _*_, _-_, _≤_, _<_}
 use native.Mathlib.Omega.{arith}
 use borrow.Author.Needs.{needs}
 use lib.ListN.{length, length-set}
 use Rattle.records.proofs.Range.{extent-ends}
-use Rattle.pool.specs.Reading.{unmarked, cut, over, scanOf}
+use Rattle.pool.specs.Reading.{scanOf}
 use Rattle.pool.specs.Walk.{countFrom}
 use Rattle.pool.proofs.Steps.{Standing, advance, stopped, finished}
 use Rattle.pool.proofs.Listing.{Listing, listing-start, listing-more, listing-end, listing-refused}
@@ -43,7 +43,7 @@ add-n c = omega (arith, c .before .before .before .before .before .loop .inv .0,
 
 loop-less : tie.Need-loop-less Inv-loop μ-loop
 loop-less c =
-    let r = extent-ends (c .before .before .before .before .before .before .before .before .args .p .now) (c .before .before .before .before .before .loop .at) _ (sym (c .before .before .before .record-extent .ensures) ∙ c .before .extent .given .1) in
+    let r = extent-ends (c .before .before .before .before .before .before .before .before .args .p .now) (c .before .before .before .before .before .loop .at) _ (sym (c .before .before .before .record-extent .ensures .0) ∙ c .before .extent .given .1) in
     omega (arith, r, c .before .before .before .before .loop-test .taken)
 
 loop-again : tie.Need-loop-again Inv-loop μ-loop
@@ -51,7 +51,7 @@ loop-again c =
     let s = c .before .before .before .before .before .before .before .before in
     let p = s .args .p .now in
     let l = c .before .before .before .before .before .loop in
-    let x = sym (c .before .before .before .record-extent .ensures) ∙ c .before .extent .given .1 in
+    let x = sym (c .before .before .before .record-extent .ensures .0) ∙ c .before .extent .given .1 in
     let r = extent-ends p (l .at) _ x in
     let t = c .before .before .before .before .loop-test .taken in
     let room : l .n < length (l .starts) = omega (arith, l .inv .0, l .inv .1, l .inv .3, s .pre .1) in
@@ -67,8 +67,8 @@ returns : tie.Need-returns Inv-loop μ-loop
 returns c =
     let p = c .before .before .before .before .before .before .before .args .p .now in
     let l = c .before .before .before .before .loop in
-    let a = stopped p _ (l .at) (l .n) (c .before .before .before .loop-test .taken) _ unmarked _ (sym (c .before .before .record-extent .ensures) ∙ c .enum-told .given .1) (λ rest. refl) (l .inv .2) in
-    (a, listing-refused unmarked _ p (l .starts) a)
+    let a = stopped p _ (l .at) (l .n) (c .before .before .before .loop-test .taken) _ _ (sym (c .before .before .record-extent .ensures .0) ∙ c .enum-told .given .1) (λ rest. refl) (l .inv .2) in
+    (a, listing-refused 3 _ (λ (z : _≡_ {A = ℕ} 3 0). omega arith) p (l .starts) a)
 
 enum-told-2 : tie.Need-enum-told-2 Inv-loop μ-loop
 enum-told-2 c = search needs
@@ -80,8 +80,8 @@ returns-2 : tie.Need-returns-2 Inv-loop μ-loop
 returns-2 c =
     let p = c .before .before .before .before .before .before .before .args .p .now in
     let l = c .before .before .before .before .loop in
-    let a = stopped p _ (l .at) (l .n) (c .before .before .before .loop-test .taken) _ cut _ (sym (c .before .before .record-extent .ensures) ∙ c .enum-told2 .given .1) (λ rest. refl) (l .inv .2) in
-    (a, listing-refused cut _ p (l .starts) a)
+    let a = stopped p _ (l .at) (l .n) (c .before .before .before .loop-test .taken) _ _ (sym (c .before .before .record-extent .ensures .0) ∙ c .enum-told2 .given .1) (λ rest. refl) (l .inv .2) in
+    (a, listing-refused 4 _ (λ (z : _≡_ {A = ℕ} 4 0). omega arith) p (l .starts) a)
 
 enum-known-extent-2 : tie.Need-enum-known-extent-2 Inv-loop μ-loop
 enum-known-extent-2 c = search needs
@@ -93,8 +93,8 @@ returns-3 : tie.Need-returns-3 Inv-loop μ-loop
 returns-3 c =
     let p = c .before .before .before .before .before .before .before .before .args .p .now in
     let l = c .before .before .before .before .before .loop in
-    let a = stopped p _ (l .at) (l .n) (c .before .before .before .before .loop-test .taken) _ over _ (sym (c .before .before .before .record-extent .ensures) ∙ c .before .extent2 .given .1) (λ rest. refl) (l .inv .2) in
-    (a, listing-refused over _ p (l .starts) a)
+    let a = stopped p _ (l .at) (l .n) (c .before .before .before .before .loop-test .taken) _ _ (sym (c .before .before .before .record-extent .ensures .0) ∙ c .before .extent2 .given .1) (λ rest. refl) (l .inv .2) in
+    (a, listing-refused 5 _ (λ (z : _≡_ {A = ℕ} 5 0). omega arith) p (l .starts) a)
 
 cast-starts-2 : tie.Need-cast-starts-2 Inv-loop μ-loop
 cast-starts-2 c = omega (arith, c .before .loop .inv .0, c .before .before .before .before .pre .0)

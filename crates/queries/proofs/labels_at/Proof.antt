@@ -40,10 +40,10 @@ copy-requires-3 : tie.Need-copy-requires-3
 copy-requires-3 c κs = search needs
 
 cast-t21 : tie.Need-cast-t21
-cast-t21 c = omega (arith, c .before .before .before .before .before .before .before .before .before .before .before .before .before .before .pre, ap length (c .before .before .before .part3 .ensures ∙ ap (λ (d : Device). partOf (c .before .before .before .before .before .before .before .before .before .before .before .before .before .before .args .p .now) (d .extended)) (c .before .before .before .before .before .before .before .before .before .before .before .before .device .ensures)))
+cast-t21 c = omega (arith, c .before .before .before .before .before .before .before .before .before .before .before .before .before .before .pre, ap length (c .before .before .before .part3 .ensures .0 ∙ ap (λ (d : Device). partOf (c .before .before .before .before .before .before .before .before .before .before .before .before .before .before .args .p .now) (d .extended)) (c .before .before .before .before .before .before .before .before .before .before .before .before .device .ensures)))
 
 returns : tie.Need-returns
-returns c = record { number = refl; structure = copied 7 (c .before .before .before .before .before .before .before .before .before .before .before .before .before .before .args .p .now) (deviceOf (c .before .before .before .before .before .before .before .before .before .before .before .before .before .before .args .p .now) (c .before .before .before .before .before .before .before .before .before .before .before .before .before .before .args .at) .structure) (c .before .before .before .before .before .before .before .before .before .before .before .before .device .result .structure) _ _ (ap (λ (d : Device). d .structure) (c .before .before .before .before .before .before .before .before .before .before .before .before .device .ensures)) (c .before .before .before .before .before .before .before .before .before .before .before .part .ensures) (c .before .before .before .before .before .before .before .before .before .copy .ensures .1) (structure-long (c .before .before .before .before .before .before .before .before .before .before .before .before .before .before .args .p .now) (c .before .before .before .before .before .before .before .before .before .before .before .before .before .before .args .at)); localization = copied 7 (c .before .before .before .before .before .before .before .before .before .before .before .before .before .before .args .p .now) (deviceOf (c .before .before .before .before .before .before .before .before .before .before .before .before .before .before .args .p .now) (c .before .before .before .before .before .before .before .before .before .before .before .before .before .before .args .at) .localization) (c .before .before .before .before .before .before .before .before .before .before .before .before .device .result .localization) _ _ (ap (λ (d : Device). d .localization) (c .before .before .before .before .before .before .before .before .before .before .before .before .device .ensures)) (c .before .before .before .before .before .before .before .part2 .ensures) (c .before .before .before .before .before .copy2 .ensures .1) (localization-long (c .before .before .before .before .before .before .before .before .before .before .before .before .before .before .args .p .now) (c .before .before .before .before .before .before .before .before .before .before .before .before .before .before .args .at)); extended = copied 32 (c .before .before .before .before .before .before .before .before .before .before .before .before .before .before .args .p .now) (deviceOf (c .before .before .before .before .before .before .before .before .before .before .before .before .before .before .args .p .now) (c .before .before .before .before .before .before .before .before .before .before .before .before .before .before .args .at) .extended) (c .before .before .before .before .before .before .before .before .before .before .before .before .device .result .extended) _ _ (ap (λ (d : Device). d .extended) (c .before .before .before .before .before .before .before .before .before .before .before .before .device .ensures)) (c .before .before .before .part3 .ensures) (c .before .copy3 .ensures .1) (c .before .before .before .before .before .before .before .before .before .before .before .before .before .before .pre); count = ap length (c .before .before .before .part3 .ensures ∙ ap (λ (d : Device). partOf (c .before .before .before .before .before .before .before .before .before .before .before .before .before .before .args .p .now) (d .extended)) (c .before .before .before .before .before .before .before .before .before .before .before .before .device .ensures)) }
+returns c = record { number = refl; structure = copied 7 (c .before .before .before .before .before .before .before .before .before .before .before .before .before .before .args .p .now) (deviceOf (c .before .before .before .before .before .before .before .before .before .before .before .before .before .before .args .p .now) (c .before .before .before .before .before .before .before .before .before .before .before .before .before .before .args .at) .structure) (c .before .before .before .before .before .before .before .before .before .before .before .before .device .result .structure) _ _ (ap (λ (d : Device). d .structure) (c .before .before .before .before .before .before .before .before .before .before .before .before .device .ensures)) (c .before .before .before .before .before .before .before .before .before .before .before .part .ensures .0) (c .before .before .before .before .before .before .before .before .before .copy .ensures .1) (structure-long (c .before .before .before .before .before .before .before .before .before .before .before .before .before .before .args .p .now) (c .before .before .before .before .before .before .before .before .before .before .before .before .before .before .args .at)); localization = copied 7 (c .before .before .before .before .before .before .before .before .before .before .before .before .before .before .args .p .now) (deviceOf (c .before .before .before .before .before .before .before .before .before .before .before .before .before .before .args .p .now) (c .before .before .before .before .before .before .before .before .before .before .before .before .before .before .args .at) .localization) (c .before .before .before .before .before .before .before .before .before .before .before .before .device .result .localization) _ _ (ap (λ (d : Device). d .localization) (c .before .before .before .before .before .before .before .before .before .before .before .before .device .ensures)) (c .before .before .before .before .before .before .before .part2 .ensures .0) (c .before .before .before .before .before .copy2 .ensures .1) (localization-long (c .before .before .before .before .before .before .before .before .before .before .before .before .before .before .args .p .now) (c .before .before .before .before .before .before .before .before .before .before .before .before .before .before .args .at)); extended = copied 32 (c .before .before .before .before .before .before .before .before .before .before .before .before .before .before .args .p .now) (deviceOf (c .before .before .before .before .before .before .before .before .before .before .before .before .before .before .args .p .now) (c .before .before .before .before .before .before .before .before .before .before .before .before .before .before .args .at) .extended) (c .before .before .before .before .before .before .before .before .before .before .before .before .device .result .extended) _ _ (ap (λ (d : Device). d .extended) (c .before .before .before .before .before .before .before .before .before .before .before .before .device .ensures)) (c .before .before .before .part3 .ensures .0) (c .before .copy3 .ensures .1) (c .before .before .before .before .before .before .before .before .before .before .before .before .before .before .pre); count = ap length (c .before .before .before .part3 .ensures .0 ∙ ap (λ (d : Device). partOf (c .before .before .before .before .before .before .before .before .before .before .before .before .before .before .args .p .now) (d .extended)) (c .before .before .before .before .before .before .before .before .before .before .before .before .device .ensures)) }
 
 pub labels-at-spec : {M : Type 1} → statement M
 labels-at-spec =

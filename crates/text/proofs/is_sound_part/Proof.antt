@@ -12,7 +12,7 @@ is-sound-slice-requires : tie.Need-is-sound-slice-requires
 is-sound-slice-requires c κs = search needs
 
 returns : tie.Need-returns
-returns c = c .is-sound-slice .ensures ∙ ap soundText (c .before .part .ensures)
+returns c = c .is-sound-slice .ensures ∙ ap soundText (c .before .part .ensures .0)
 
 pub is-sound-part-spec : {M : Type 1} → statement M
 is-sound-part-spec = tie.close (tie.spec part-requires is-sound-slice-requires returns)
