@@ -12,14 +12,14 @@
 #include <stdlib.h>
 #include <string.h>
 
-/* All memory that calls are lent. A terminal of its own would take LACHSBRILLE_POOL_MOST bytes and
+/* All memory that is lent to calls. A real terminal would take LACHSBRILLE_POOL_MOST bytes and
  * LACHSBRILLE_RECORDS_MOST entries, so that no pool is too long for it. */
 enum { AREA = 512, ENTRIES = 16, FAULTS = 8, LOG = 256, VALUES = 8 };
 
 static uint8_t staging[AREA];
 static uint8_t kept[AREA];
 static lachsbrille_record table[ENTRIES];
-static size_t records; /* how many of them the active pool has */
+static size_t records; /* how many entries of the table the active pool has filled */
 
 /* What the sprayer sends. */
 static const uint8_t sprayer[] = {
@@ -42,7 +42,7 @@ static const uint8_t sprayer[] = {
 /* Where the transfer is stopped: between two records, so that what has arrived looks like a whole pool. */
 enum { STOPPED_AFTER = 58 };
 
-/* Stops the program where a call gives another number than this terminal can go on with. */
+/* Ends the program if a call gives another number than the one expected. */
 static void expect(const char *call, uint32_t number, uint32_t expected)
 {
     if (number != expected) {
@@ -51,7 +51,7 @@ static void expect(const char *call, uint32_t number, uint32_t expected)
     }
 }
 
-/* Sends a part of the pool in pieces as short as a transport frame's. */
+/* Sends a part of the pool in pieces as short as those of a transport protocol frame. */
 static lachsbrille_session transfer(lachsbrille_session session, size_t from, size_t to)
 {
     enum { PIECE = 7 };
@@ -109,7 +109,7 @@ static void show_records(size_t pool_length)
                (const char *)kept + from);
     }
 
-    /* A part of the pool is read, and has faults: its list of entries names records that are not there. */
+    /* A pool that ends here is read, but has faults: a list of entries names records that are missing. */
     expect("check",
            lachsbrille_check(kept, table[3].start, table, ENTRIES, faults, sizeof faults / sizeof *faults, &count),
            LACHSBRILLE_OK);
@@ -119,7 +119,7 @@ static void show_records(size_t pool_length)
 
 /* ---- The device: the fields of its records, by the table ---- */
 
-/* The table's entry of an ID, none for LACHSBRILLE_NO_ID. In an accepted pool every other ID that a record names is there. */
+/* The table's entry with an ID, NULL for LACHSBRILLE_NO_ID. In an accepted pool every other ID that a record names is found. */
 static const lachsbrille_record *find(uint16_t id)
 {
     size_t record;
@@ -159,7 +159,7 @@ static data_fields read_data(size_t pool_length, const lachsbrille_record *recor
     return fields;
 }
 
-/* Prints a part of the pool. Texts of an accepted pool are UTF-8, without a 0 at their end. */
+/* Prints a part of the pool. Texts of an accepted pool are UTF-8 and do not end with a 0. */
 static void show_text(lachsbrille_span text)
 {
     printf("\"%.*s\"", (int)(text.to - text.from), (const char *)kept + text.from);
@@ -206,7 +206,7 @@ static void show_elements(size_t pool_length)
     }
 }
 
-/* Shows a value as the pool says: by the presentation that the process data or property with this ID names. */
+/* Shows a value as the pool asks: with the presentation that the process data or property with this ID names. */
 static void show_value(size_t pool_length, uint16_t id, int32_t value)
 {
     data_fields data = read_data(pool_length, find(id));
@@ -265,7 +265,7 @@ static void show_message(const uint8_t *bytes)
     }
 }
 
-/* Judges a command by the pool: it is sent where the device takes it, else acknowledged with the error. */
+/* Judges a command by the pool: if the device takes it, it is sent, else it is acknowledged with the error. */
 static void send_command(size_t pool_length, uint8_t command, uint16_t element, uint16_t ddi, int32_t value)
 {
     uint8_t bytes[LACHSBRILLE_MESSAGE_LENGTH];
@@ -284,7 +284,7 @@ static void send_command(size_t pool_length, uint8_t command, uint16_t element, 
     show_message(bytes);
 }
 
-/* Writes two log records of the rate and reads them back, by themselves and as a log. */
+/* Writes two log records of the rate and reads them back, one by one and as a log. */
 static void keep_log(void)
 {
     enum { LAYOUT = LACHSBRILLE_LAYOUT_NORTH | LACHSBRILLE_LAYOUT_EAST | LACHSBRILLE_LAYOUT_STATUS, LOGGED = 1 };
@@ -338,7 +338,7 @@ int main(void)
     show_records(session.kept);
     show_labels(session.kept);
 
-    /* The table holds what the last call with it read: here all records again. */
+    /* The table holds the records that the last call with a table read: here all of them again. */
     show_elements(session.kept);
     show_value(session.kept, 3, 2000000);
     send_command(session.kept, LACHSBRILLE_VALUE, 1, 1, 2000000);
@@ -348,8 +348,8 @@ int main(void)
     send_command(session.kept, LACHSBRILLE_VALUE, 2, 1, 2000000);
     keep_log();
 
-    /* The connection is lost and comes back: the kept pool is activated without being sent again. Of staging and the table
-     * nothing is needed for that. */
+    /* The connection is lost and comes back: the kept pool is activated without being sent again. Neither staging nor the
+     * table is needed for that. */
     lachsbrille_session_lost(&step, session);
     expect("lost", step.number, LACHSBRILLE_OK);
     lachsbrille_session_activate(&step, step.session, LACHSBRILLE_NOTHING, 0, kept, sizeof kept, LACHSBRILLE_NOTHING, 0);

@@ -1,18 +1,18 @@
 /**
  * @file
- * Lachsbrille: the proved core of a task controller after ISO 11783-10, for C99 and C++11.
+ * Lachsbrille: the proved core of a task controller according to ISO 11783-10, for C99 and C++11.
  *
  * `./lachsbrille build` makes the library to link with, liblachsbrille.a, for 64-bit little-endian Linux on x86-64 or aarch64. It
  * needs memcpy and memset of the platform, and nothing else. The functions below are the ones that are proved: no layer of C lies
  * between them and their caller.
  *
- * Results. A result of over 16 bytes goes into `out`, the first parameter, which is written whole by every call, refused ones too.
+ * Results. A result of more than 16 bytes goes into `out`, the first parameter. Every call writes all of it, also a refused one.
  *
  * Lent memory. A slice is a pointer and a length, which counts items and not bytes. The pointer of an empty slice must not be
- * null: LACHSBRILLE_NOTHING is one to be used with a length of 0. All that is lent to one call must lie apart: no two areas, lent
- * numbers and results may overlap, and no two lent numbers may be one. A call uses what it is lent only until it returns. What a
- * call writes to and does not read may be lent uninitialised: a table, a fault buffer, a result, a lent number, the lists that a log
- * record is read into, the bytes that a message or a record is written to, staging, and the kept area until a pool is kept there.
+ * null: use LACHSBRILLE_NOTHING with a length of 0. Nothing that is lent to one call may overlap: no two areas, lent numbers or
+ * results may share a byte. A call uses what it is lent only until it returns. What a call writes to and does not read may be
+ * uninitialised: a table, a fault buffer, a result, a lent number, the lists that a log record is read into, the bytes that a
+ * message or a record is written to, staging, and the kept area until a pool is kept there.
  *
  * State. There is no heap, no global variable and no lock: a call depends on its arguments and on what they lend, so any
  * number of calls may run at once as long as they share no memory that one of them writes.
@@ -27,9 +27,9 @@
  *     session_activate     57,200
  *     the others              300
  *
- * Refusals. A call gives 0 or a refusal's number; where several apply, the one that stands first in its list below. Unless said
+ * Refusals. A call gives 0 or a refusal's number; where several apply, the one that is listed first for the call below. Unless said
  * otherwise a refusal changes no lent memory, and lent numbers and the other fields of a result are 0. A number that may be out of
- * range is taken in 32 bits: none is cut to a good one on its way.
+ * range is passed in 32 bits, so that none is truncated to a valid one before it is judged.
  *
  * Counting. Positions count from 0, records from 1.
  */
@@ -69,7 +69,7 @@ enum lachsbrille_refusal {
     /* A pool is not read. */
     LACHSBRILLE_EMPTY_POOL = 1,   /**< it has no byte */
     LACHSBRILLE_LONG_POOL = 2,    /**< it has over 65,535 bytes */
-    LACHSBRILLE_NO_MARK = 3,      /**< a record should begin, and there is none of the five marks */
+    LACHSBRILLE_NO_MARK = 3,      /**< where a record should begin there is none of the five marks */
     LACHSBRILLE_CUT_RECORD = 4,   /**< it ends inside a record */
     LACHSBRILLE_LONG_TEXT = 5,    /**< a length byte is over its limit */
     LACHSBRILLE_MANY_RECORDS = 6, /**< it has over 8,192 records; proved never to happen */
@@ -77,20 +77,20 @@ enum lachsbrille_refusal {
 
     /* A session call. */
     LACHSBRILLE_BAD_SIZE = 20,           /**< the size offered is 0 or over 65,535 */
-    LACHSBRILLE_NOTHING_OFFERED = 21,    /**< nothing is offered, nor kept where activating looks for it */
+    LACHSBRILLE_NOTHING_OFFERED = 21,    /**< nothing is offered and, when activating, nothing is kept either */
     LACHSBRILLE_BAD_PIECE = 22,          /**< a piece is empty or longer than what is still to come */
     LACHSBRILLE_STOPPED_EARLY = 23,      /**< fewer bytes arrived than were announced */
-    LACHSBRILLE_FAULTY = 24,             /**< the pool has a fault; also of texts, labels and judgements */
+    LACHSBRILLE_FAULTY = 24,             /**< the pool has a fault; also given for texts, labels and judgements */
     LACHSBRILLE_NOT_ACTIVE = 25,         /**< nothing is active */
     LACHSBRILLE_SHORT_AREA = 26,         /**< an area is too short */
-    LACHSBRILLE_IMPOSSIBLE_SESSION = 27, /**< no calls lead to this session value; a stage or active other than 0 and 1 is one */
+    LACHSBRILLE_IMPOSSIBLE_SESSION = 27, /**< no calls lead to this session value; so with a stage or active other than 0 and 1 */
 
     /* A text. */
     LACHSBRILLE_NO_SUCH_ID = 28, /**< no record has the ID */
 
     /* A process data message, or a command that is judged. */
-    LACHSBRILLE_NOT_EIGHT_BYTES = 30,     /**< the message has not eight bytes */
-    LACHSBRILLE_BAD_COMMAND = 31,         /**< the command is none that is read or written here */
+    LACHSBRILLE_NOT_EIGHT_BYTES = 30,     /**< the message does not have eight bytes */
+    LACHSBRILLE_BAD_COMMAND = 31,         /**< the command is not one that is read or written here */
     LACHSBRILLE_BAD_ELEMENT = 32,         /**< the element number is over 4,095 or the answered command over 15 */
     LACHSBRILLE_NO_ROOM_FOR_MESSAGE = 33, /**< fewer than eight bytes are lent */
 
@@ -103,7 +103,7 @@ enum lachsbrille_refusal {
     LACHSBRILLE_BAD_ORDINAL = 45,            /**< an ordinal is not below the header's count of log values */
     LACHSBRILLE_NO_ROOM_FOR_LOG_RECORD = 46, /**< a list lent for reading, or the bytes lent for writing, are too short */
     LACHSBRILLE_BAD_LAYOUT = 47,             /**< the layout has a bit above 8 */
-    LACHSBRILLE_MANY_LOG_VALUES = 48,        /**< a record is to have over 255 values, or more than a list has */
+    LACHSBRILLE_MANY_LOG_VALUES = 48,        /**< a record would have over 255 values, or more than a list holds */
 
     /* A displayed value. */
     LACHSBRILLE_BAD_PRESENTATION = 50 /**< the scale or the decimals are out of range */
@@ -118,7 +118,7 @@ enum lachsbrille_kind {
     LACHSBRILLE_DVP = 5  /**< value presentation */
 };
 
-/** Where a session's transfer stands. */
+/** The stage of a session's transfer. */
 enum lachsbrille_stage { LACHSBRILLE_STAGE_NONE = 0, LACHSBRILLE_STAGE_OFFERED = 1 };
 
 /** The commands of messages. All but the acknowledge carry a value. */
@@ -136,11 +136,11 @@ enum lachsbrille_command {
 
 /** The error byte of a judgement: the first that applies. An acknowledge carries the same bits. */
 enum lachsbrille_error {
-    LACHSBRILLE_ERROR_COMMAND = 0x01,  /**< the command is none that carries a value */
+    LACHSBRILLE_ERROR_COMMAND = 0x01,  /**< the command is not one that carries a value */
     LACHSBRILLE_ERROR_ELEMENT = 0x02,  /**< there is no such device element */
     LACHSBRILLE_ERROR_DDI = 0x04,      /**< its list has no process data or property of that DDI */
     LACHSBRILLE_ERROR_TRIGGER = 0x08,  /**< the trigger method of commands 4 to 8 is not offered */
-    LACHSBRILLE_ERROR_SETTABLE = 0x10, /**< commands 3 and 10, and it is not settable */
+    LACHSBRILLE_ERROR_SETTABLE = 0x10, /**< commands 3 and 10 for what is not settable */
     LACHSBRILLE_ERROR_INTERVAL = 0x20  /**< commands 4 and 5 with a negative value */
 };
 
@@ -160,7 +160,7 @@ enum lachsbrille_layout {
 
 /** Sizes. */
 enum lachsbrille_size {
-    LACHSBRILLE_RECORDS_MOST = 5461,   /**< records of a pool, 12 bytes being the least: a table of this length is never too short */
+    LACHSBRILLE_RECORDS_MOST = 5461,   /**< most records of a pool, of at least 12 bytes each: such a table is never too short */
     LACHSBRILLE_FAULT_WORDS = 3,       /**< words of a fault in the fault buffer */
     LACHSBRILLE_MESSAGE_LENGTH = 8,    /**< bytes of a message */
     LACHSBRILLE_ELEMENT_MOST = 4095,   /**< the greatest element number */
@@ -168,7 +168,7 @@ enum lachsbrille_size {
     LACHSBRILLE_LOG_RECORD_MOST = 1306 /**< bytes of a log record */
 };
 
-/** Bytes of a pool at most. No enumerator, since an int may be too short for it. */
+/** The most bytes that a pool may have. Not an enumerator, since an int may be too narrow for it. */
 #define LACHSBRILLE_POOL_MOST 65535u
 
 /** The ID of no record: a presentation of this ID means none. */
@@ -199,10 +199,10 @@ typedef struct lachsbrille_device_labels {
 /**
  * Reads a pool: divides it into records and lists them in the table.
  *
- * 0: `value` is the count of records, and the table starts with them; later entries stay.
- * 1 to 7: `value` is the place: 0 for 1, 2 and 6; where the record starts for 3 and 4; the length byte for 5; the entries
- * that the table needs for 7. Of 3, 4 and 5 the earliest bad record decides, read from left to right: the bytes 44 56 43 00 00 81
- * are 5 at place 5, and not 4, though the text that is announced is missing. The table stays.
+ * 0: `value` is the count of records, and the table starts with them; later entries are left as they were.
+ * 1 to 7: `value` is the place: 0 for 1, 2 and 6; where the record starts for 3 and 4; the length byte for 5; the number of
+ * entries that the table needs for 7. Between 3, 4 and 5 the earliest bad record decides, read from left to right: the bytes
+ * 44 56 43 00 00 81 give 5 at place 5, and not 4, though the text that is announced is missing. The table is left as it was.
  */
 uint32_t lachsbrille_read(const uint8_t *pool, size_t pool_length,
                           lachsbrille_record *table, size_t table_length,
@@ -214,24 +214,24 @@ uint32_t lachsbrille_read(const uint8_t *pool, size_t pool_length,
  * The fault buffer is words: record, rule and item of the first fault, then of the second, and so on. Its length counts words.
  *
  * 0: `value` is the full count of faults; a pool is accepted where it is 0. The buffer starts with the faults in the order of
- * record, rule and item, as many as fit whole; its other words stay, also one or two at its end that are too few for a fault. The
- * table is filled as in reading.
- * 1 to 7: as in reading, and the buffer stays.
+ * record, rule and item, as many whole ones as fit; its other words are left as they were, also one or two at its end that are too
+ * few for a fault. The table is filled as in reading.
+ * 1 to 7: as in reading, and the buffer is left as it was.
  */
 uint32_t lachsbrille_check(const uint8_t *pool, size_t pool_length,
                            lachsbrille_record *table, size_t table_length,
                            uint16_t *faults, size_t faults_length,
                            size_t *value);
 
-/** Whether a text keeps rule 4: well-formed UTF-8 without a byte order mark in front, of at most 32 characters. */
+/** Whether a text keeps rule 4: well-formed UTF-8 that does not begin with a byte order mark, of at most 32 characters. */
 bool lachsbrille_text_is_sound(const uint8_t *text, size_t text_length);
 
 /**
  * The designator or unit text of the first record with an ID. The pool must be accepted; it is checked on every call, so that
  * no earlier check can be out of date.
  *
- * 0: the text is pool[from] up to, and without, pool[to]; an empty text has from equal to to.
- * 1 to 7: the pool is not read, and the table stays.
+ * 0: the text is pool[from] up to, but not including, pool[to]; for an empty text from equals to.
+ * 1 to 7: the pool is not read, and the table is left as it was.
  * 24: it has a fault. 28: no record has the ID. The table is filled as in reading after 0, 24 and 28.
  */
 uint32_t lachsbrille_text(const uint8_t *pool, size_t pool_length,
@@ -242,7 +242,7 @@ uint32_t lachsbrille_text(const uint8_t *pool, size_t pool_length,
 /**
  * The structure label, the localization label and the extended structure label of the device. The pool must be accepted.
  *
- * number 0: the labels. 1 to 7: the pool is not read, and the table stays. 24: it has a fault.
+ * number 0: the labels. 1 to 7: the pool is not read, and the table is left as it was. 24: it has a fault.
  * The table is filled as in reading after 0 and 24.
  */
 void lachsbrille_labels(lachsbrille_device_labels *out,
@@ -252,12 +252,12 @@ void lachsbrille_labels(lachsbrille_device_labels *out,
 /* ---- The fields of a record ---------------------------------------------------------------------------------------- */
 
 /*
- * What stands in the record that starts at a place, by the table's `start` and `kind`. Texts and labels are places in the pool. Any
- * pool and any place may be given: nothing is judged, the bytes are read as though a whole record of that kind stood there, and
- * bytes past the pool's end are read as 0. The places of a pool that was read lie within it.
+ * The fields of the record that starts at a given place; the table has its `start` and its `kind`. Texts and labels are given as
+ * places in the pool. Any pool and any place may be passed: nothing is judged, the bytes are read as if a whole record of that kind
+ * started there, and bytes past the pool's end are read as 0. For a record of a pool that was read, these places lie within the pool.
  */
 
-/** A part of the pool: pool[from] up to, and without, pool[to]. */
+/** A part of the pool: pool[from] up to, but not including, pool[to]. */
 typedef struct lachsbrille_span {
     size_t from;
     size_t to;
@@ -267,7 +267,7 @@ typedef struct lachsbrille_span {
 typedef struct lachsbrille_device {
     lachsbrille_span designator;
     lachsbrille_span version; /**< software version */
-    uint64_t name;            /**< NAME of the client, its first byte lowest */
+    uint64_t name;            /**< NAME of the client; its first byte is the lowest */
     lachsbrille_span serial;  /**< serial number */
     lachsbrille_span structure;
     lachsbrille_span localization;
@@ -315,8 +315,8 @@ void lachsbrille_read_device(lachsbrille_device *out, const uint8_t *pool, size_
 void lachsbrille_read_element(lachsbrille_element *out, const uint8_t *pool, size_t pool_length, uint16_t start);
 
 /**
- * The ID that entry n of a device element's list names, counted from 0. From `entries` on it is no entry: the bytes after the list
- * are read as though it went on.
+ * The ID that entry n of a device element's list names, counted from 0. If n is `entries` or more, there is no such entry: the
+ * bytes after the list are read as if it went on.
  */
 uint16_t lachsbrille_read_entry(const uint8_t *pool, size_t pool_length, uint16_t start, uint16_t n);
 
@@ -332,23 +332,23 @@ void lachsbrille_read_presentation(lachsbrille_presentation *out, const uint8_t 
 /* ---- Sessions ------------------------------------------------------------------------------------------------------ */
 
 /**
- * One client's session. Begin with lachsbrille_session_new, and hand each call the value that the last one returned, with the
+ * One client's session. Begin with lachsbrille_session_new, and pass each call the value that the last one returned, with the
  * same two areas: staging, into which pieces are written, and kept, into which an accepted pool is copied. Between calls
- * leave the value and the areas as they are; what a session promises rests on it. While nothing is offered, no call looks at what
- * staging holds, and it may be used for something else. The pool that is kept, and that is active where `active` is 1, is the first
- * `kept` bytes of the kept area: ask texts, labels and judgements of these.
+ * leave the value and the areas as they are; what a session promises depends on it. While nothing is offered, no call looks at what
+ * staging holds, and it may be used for something else. The pool that is kept, and that is active if `active` is 1, is the first
+ * `kept` bytes of the kept area: pass these to the calls for texts, labels and judgements.
  */
 typedef struct lachsbrille_session {
     uint32_t announced; /**< bytes of the pool that is offered */
     uint32_t received;  /**< bytes that have arrived of it */
-    uint32_t kept;      /**< bytes of the pool that the kept area starts with */
+    uint32_t kept;      /**< length of the pool that the kept area starts with, 0 for none */
     uint16_t stage;     /**< enum lachsbrille_stage; any other number is refused with 27 */
     uint16_t active;    /**< 0 or 1; any other number is refused with 27 */
 } lachsbrille_session;
 
 /**
- * What a session call leaves and answers. After a refusal `session` is the value as it was given, except where activating
- * says otherwise. `place`, `record`, `rule` and `item` are 0 unless activating sets them.
+ * What a session call returns: the session value after it, and its answer. After a refusal `session` is the value that was passed,
+ * except where activating says otherwise. `place`, `record`, `rule` and `item` are 0 unless activating sets them.
  */
 typedef struct lachsbrille_step {
     lachsbrille_session session;
@@ -363,10 +363,10 @@ typedef struct lachsbrille_step {
 lachsbrille_session lachsbrille_session_new(void);
 
 /**
- * Announces the size of a pool. An earlier offer is forgotten. Of the areas only the lengths matter; both stay.
+ * Announces the size of a pool. An earlier offer is forgotten. Of the two areas only the lengths matter; neither is written.
  *
  * 0: offered, and nothing received.
- * 27: the session value can't arise. 20: the size is 0 or over 65,535. 26: an area is shorter than the size.
+ * 27: impossible session value. 20: the size is 0 or over 65,535. 26: an area is shorter than the size.
  */
 void lachsbrille_session_offer(lachsbrille_step *out, lachsbrille_session session,
                                size_t size,
@@ -374,10 +374,10 @@ void lachsbrille_session_offer(lachsbrille_step *out, lachsbrille_session sessio
                                const uint8_t *kept, size_t kept_length);
 
 /**
- * Takes a piece of the pool into staging, after what has been received. Every other byte of staging stays.
+ * Copies a piece of the pool into staging, after the bytes already received. Every other byte of staging is left as it was.
  *
  * 0: the piece is received.
- * 27: the session value can't arise. 21: nothing is offered. 22: the piece is empty or longer than what is still to come.
+ * 27: impossible session value. 21: nothing is offered. 22: the piece is empty or longer than what is still to come.
  * 26: staging is shorter than announced.
  */
 void lachsbrille_session_transfer(lachsbrille_step *out, lachsbrille_session session,
@@ -387,30 +387,30 @@ void lachsbrille_session_transfer(lachsbrille_step *out, lachsbrille_session ses
 /**
  * Activates the pool that is offered, or else the one that is kept.
  *
- * 0: active. After an offer the kept area starts with the pool and its other bytes stay, the stage is none and the table is
- * filled as in reading. Where nothing was offered the kept pool is active again, and neither it nor the table is looked at.
- * 27: the session value can't arise.
+ * 0: active. After an offer the kept area starts with the pool and its other bytes are as they were, the stage is none and the table
+ * is filled as in reading. If nothing was offered, the kept pool is active again, and neither it nor the table is looked at.
+ * 27: impossible session value.
  * 21: nothing is offered and nothing kept.
  * 23: fewer bytes arrived than were announced. The offer stands, so the rest may follow.
- * 26: the kept area is shorter than the pool, or with an offer staging is. An offer stands.
- * 3 to 6: the pool is not read, `place` as in reading. The offer is over. (1 and 2 can't come, for the size was judged.)
+ * 26: the kept area is shorter than the pool, or, if a pool is offered, staging is. An offer stands.
+ * 3 to 6: the pool is not read, `place` as in reading. The offer is over. (1 and 2 cannot occur, since the size was judged.)
  * 7: the table is too short, `place` says how many entries it needs. The offer stands: try again with a longer table.
- * 24: the pool has a fault; `record`, `rule` and `item` are the first one. The offer is over. The table is filled. Staging still
+ * 24: the pool has a fault; `record`, `rule` and `item` are its first one. The offer is over. The table is filled. Staging still
  * starts with the pool: lachsbrille_check of staging, with the size that was offered, lists the other faults.
- * After every refusal the kept area, the kept size and `active` stay: the earlier pool remains in force.
+ * After every refusal the kept area, the kept size and `active` are as they were: the earlier pool remains in force.
  */
 void lachsbrille_session_activate(lachsbrille_step *out, lachsbrille_session session,
                                   const uint8_t *staging, size_t staging_length,
                                   uint8_t *kept, size_t kept_length,
                                   lachsbrille_record *table, size_t table_length);
 
-/** Ends being active; all else stays. 27: the session value can't arise. 25: nothing is active. */
+/** Deactivates the pool; it stays kept, and an offer stands. 27: impossible session value. 25: nothing is active. */
 void lachsbrille_session_deactivate(lachsbrille_step *out, lachsbrille_session session);
 
-/** Forgets the pool that is kept, and an offer. 27: the session value can't arise. */
+/** Forgets the pool that is kept, and an offer. 27: impossible session value. */
 void lachsbrille_session_delete(lachsbrille_step *out, lachsbrille_session session);
 
-/** The connection is lost: not active, an offer is forgotten, a kept pool stays kept. 27: the session value can't arise. */
+/** The connection is lost: no pool is active, an offer is forgotten, a kept pool stays kept. 27: impossible session value. */
 void lachsbrille_session_lost(lachsbrille_step *out, lachsbrille_session session);
 
 /* ---- Process data messages ----------------------------------------------------------------------------------------- */
@@ -422,7 +422,7 @@ typedef struct lachsbrille_message_fields {
     uint16_t element; /**< element number */
     uint16_t ddi;
     uint8_t command;  /**< enum lachsbrille_command */
-    uint8_t errors;   /**< enum lachsbrille_error, any of them together; the two highest bits are given as they came */
+    uint8_t errors;   /**< enum lachsbrille_error, any of them together; the two highest bits are given as received */
     uint8_t answered; /**< the command that is acknowledged, 0 to 15 */
 } lachsbrille_message_fields;
 
@@ -434,7 +434,7 @@ typedef struct lachsbrille_message_fields {
 lachsbrille_message_fields lachsbrille_message_read(const uint8_t *bytes, size_t bytes_length);
 
 /**
- * Writes a value message into the first eight bytes; the others stay.
+ * Writes a value message into the first eight bytes; the others are left as they were.
  *
  * 31: a command other than 2 to 8 and 10. 32: the element number is over 4,095. 33: fewer than eight bytes are lent.
  */
@@ -442,8 +442,8 @@ uint32_t lachsbrille_message_write_value(uint8_t *to, size_t to_length,
                                          uint32_t command, uint32_t element, uint16_t ddi, int32_t value);
 
 /**
- * Writes an acknowledge into the first eight bytes; the others stay. Any error byte is written, and what is ignored when read is
- * written as ones.
+ * Writes an acknowledge into the first eight bytes; the others are left as they were. Any error byte is written, and the bits that
+ * reading ignores are written as ones.
  *
  * 32: the element number is over 4,095 or the answered command over 15. 33: fewer than eight bytes are lent.
  */
@@ -453,9 +453,9 @@ uint32_t lachsbrille_message_write_acknowledge(uint8_t *to, size_t to_length,
 /**
  * Judges a command to the device: whether its pool lets it take the command. The pool must be accepted.
  *
- * 0: `error` is the error byte, 0 where the device takes the command. A command that is unknown is error 0x01, no refusal.
- * 32: the element number is over 4,095; judged before the pool, and the table stays.
- * 1 to 7: the pool is not read, and the table stays. 24: it has a fault.
+ * 0: `error` is the error byte, 0 if the device takes the command. An unknown command is error 0x01, not a refusal.
+ * 32: the element number is over 4,095; judged before the pool, and the table is left as it was.
+ * 1 to 7: the pool is not read, and the table is left as it was. 24: it has a fault.
  * The table is filled as in reading after 0 and 24.
  */
 uint32_t lachsbrille_judge(const uint8_t *pool, size_t pool_length,
@@ -466,8 +466,8 @@ uint32_t lachsbrille_judge(const uint8_t *pool, size_t pool_length,
 /* ---- Displayed value ----------------------------------------------------------------------------------------------- */
 
 /**
- * The value that a display shows by a value presentation: (value + offset) times scale. Only the product is rounded, once.
- * The decimals are judged and change nothing: how many digits are drawn is the display's.
+ * The value that a display shows according to a value presentation: (value + offset) times scale. Only the product is rounded, once.
+ * The decimals are judged and change nothing: how many digits are drawn is up to the display.
  *
  * The floating-point environment must be the default one: rounding to nearest, no exception trapped. With another rounding the
  * last bit may differ, and an unmasked exception ends the program.
@@ -479,7 +479,7 @@ uint32_t lachsbrille_displayed(int32_t value, int32_t offset, float scale, uint3
 
 /* ---- Time log ------------------------------------------------------------------------------------------------------ */
 
-/** The fields of a log record. One that the layout does not mark is 0 when read, and neither judged nor written. */
+/** The fields of a log record. A field that the layout does not mark is 0 when read, and neither judged nor written. */
 typedef struct lachsbrille_log_fields {
     uint32_t time; /**< of day, in ms */
     uint16_t days; /**< since 1980-01-01 */
@@ -489,7 +489,7 @@ typedef struct lachsbrille_log_fields {
     uint8_t status; /**< of the position; 15 means that it is missing */
     uint16_t pdop;  /**< tenths */
     uint16_t hdop;  /**< tenths */
-    uint8_t satellites; /**< that are used */
+    uint8_t satellites; /**< the number used */
     uint32_t gps_time;  /**< UTC, ms since midnight */
     uint16_t gps_date;  /**< UTC, days since 1980-01-01 */
 } lachsbrille_log_fields;
@@ -517,8 +517,8 @@ typedef struct lachsbrille_log_written {
 /** A log that was read. */
 typedef struct lachsbrille_log_outcome {
     uint32_t number;
-    size_t count; /**< of its records */
-    size_t start; /**< where the record of a refusal starts */
+    size_t count; /**< the number of its records */
+    size_t start; /**< where the refused record starts */
 } lachsbrille_log_outcome;
 
 /** How many optional fields a layout marks. number 0: the count. 47: the layout has a bit above 8. */
@@ -527,7 +527,7 @@ lachsbrille_log_marks lachsbrille_log_optional_fields(uint32_t layout);
 /**
  * Reads the log record that the bytes start with. `logged` is the log header's count of log values.
  *
- * number 0: length, count and fields. Both lists start with the record's ordinals and values; their other items stay.
+ * number 0: length, count and fields. Both lists start with the record's ordinals and values; their other items are as they were.
  * 47: the layout has a bit above 8. 40: the bytes end inside the record. 41 to 45, in field order: time, north, east, status
  * or an ordinal is out of range. 46: a list is shorter than count.
  */
@@ -540,7 +540,7 @@ void lachsbrille_log_read_record(lachsbrille_log_record *out,
 /**
  * Writes a log record of the first `count` ordinals and values. `logged` is the log header's count of log values.
  *
- * number 0: its length; the bytes after it stay.
+ * number 0: its length; the bytes after it are left as they were.
  * 47: the layout has a bit above 8. 48: count is over 255 or over a list's length. 41 to 45, in field order: time, north,
  * east, status or an ordinal is out of range. 46: fewer bytes are lent than the record takes.
  */
@@ -551,7 +551,7 @@ lachsbrille_log_written lachsbrille_log_write_record(uint8_t *to, size_t to_leng
                                                      size_t count);
 
 /**
- * Reads a log: records to its end, or none.
+ * Reads a log: checks all of its records and counts them. A log without a byte has no record.
  *
  * number 0: the count of records. 47: the layout has a bit above 8. 40 to 45: as in reading a record, for the first record
  * that is refused; `start` is where it begins, and count is 0.
