@@ -100,6 +100,7 @@ BENDS = {
     ("claims", "checker"): ("left", 6, [], "right", 6),
     ("claims", "presentation"): ("left", -9, [998, 5.56, 460], "right", 0),
     ("pool_breaches", "chains"): ("left", 0, [], "top", 0),
+    ("record_breaches", "marks"): ("left", 0, [532], "right", 0),
     ("chains", "rules"): ("bottom", 30, [10.5], "top", -30),
     ("rules", "faults"): ("right", 0, [], "left", 0),
     ("rules", "text"): ("bottom", -30, [11.5], "top", 0),
