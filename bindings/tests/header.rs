@@ -10,7 +10,7 @@ use std::path::{Path, PathBuf};
 /// Rattle, and their name in Rust. C's is Rust's in C's spelling.
 const STRUCTS: [(&str, &str, &str); 16] = [
     ("working_table", "Record", "Record"),
-    ("device", "DeviceLabels", "DeviceLabels"),
+    ("queries", "DeviceLabels", "DeviceLabels"),
     ("records", "Span", "Span"),
     ("records", "Device", "Device"),
     ("records", "DeviceElement", "Element"),
@@ -18,8 +18,8 @@ const STRUCTS: [(&str, &str, &str); 16] = [
     ("records", "Property", "Property"),
     ("records", "ValuePresentation", "Presentation"),
     ("session", "Session", "Session"),
-    ("answers", "StepFields", "Step"),
-    ("answers", "MessageFields", "MessageFields"),
+    ("c_answers", "StepFields", "Step"),
+    ("c_answers", "MessageFields", "MessageFields"),
     ("time_log", "Fields", "LogFields"),
     ("time_log", "Marks", "LogMarks"),
     ("log_reading", "Record", "LogRecord"),

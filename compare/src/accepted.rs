@@ -1,6 +1,6 @@
 //! Pools without a fault, of many shapes and sizes.
 
-use crate::objects::{Object, GREATEST_NUMBER, GREATEST_SCALE, LEAST_SCALE};
+use crate::objects::{Object, DEVICE_TYPE, GREATEST_NUMBER, GREATEST_SCALE, LEAST_SCALE};
 use crate::random::Random;
 use crate::shape::LABEL_LIMIT;
 use crate::wording::sound_text;
@@ -12,6 +12,8 @@ const IDS: usize = 65_534;
 /// Steps that lead through all IDs, and through all element numbers.
 const STEPS: [usize; 5] = [1, IDS - 1, 255, 257, 40_503];
 const NUMBER_STEPS: [usize; 4] = [1, 4_095, 257, 1_501];
+/// Types of device elements other than device.
+const OTHER_TYPES: [u8; 6] = [2, 3, 4, 5, 6, 7];
 
 /// How many records of which kind, how they hang together.
 struct Plan {
@@ -165,15 +167,18 @@ impl Maker<'_> {
         device
     }
 
-    /// The first one is of type 1.
+    /// The first one, and no other, is of type device.
     fn elements(&mut self, data: &[Object]) -> Vec<Object> {
         let mut elements: Vec<Object> = Vec::new();
         for index in 0..self.plan.elements {
             let mut element = Object::plain(Kind::Det, self.id());
             element.texts[0] = self.text();
             element.number = self.numbers.draw();
+            element.element_type = match index {
+                0 => DEVICE_TYPE,
+                _ => self.random.pick(&OTHER_TYPES),
+            };
             if let Some(above) = self.above(index) {
-                element.element_type = self.random.between(1, 7) as u8;
                 element.parent = elements[above].id;
             }
             element.entries = self.entries(data);
@@ -295,6 +300,15 @@ mod tests {
             let pool = pool_of(&objects(&mut Random::for_item(11783, index)));
             let mut table = vec![Record::default(); pool.len() / 12];
             assert_eq!(second::check(&pool, &mut table, &mut []), Ok(0), "{index}");
+        }
+    }
+
+    #[test]
+    fn drawn_pools_have_one_element_of_type_device() {
+        for index in 0..2_000 {
+            let objects = objects(&mut Random::for_item(11783, index));
+            let roots = objects.iter().filter(|it| it.is_root_element());
+            assert_eq!(roots.count(), 1, "{index}");
         }
     }
 }

@@ -342,8 +342,8 @@ fn whole_pool(random: &mut Random, objects: &mut Vec<Object>) -> Fault {
         _ if random.one_in(4) => objects.retain(|object| object.kind != Kind::Det),
         _ => {
             let other = random.pick(&[0, 2, 3, 4, 5, 6, 7, 8]);
-            let device_elements = objects.iter_mut().filter(|it| it.element_type == 1);
-            device_elements.for_each(|it| it.element_type = other);
+            let roots = objects.iter_mut().filter(|it| it.is_root_element());
+            roots.for_each(|it| it.element_type = other);
         }
     }
     Fault {

@@ -67,18 +67,18 @@ fn device() -> Object {
     Object::plain(Kind::Dvc, 0)
 }
 
-fn element(id: u16) -> Object {
-    Object::plain(Kind::Det, id)
+/// The root element, with the ID 1.
+fn root() -> Object {
+    Object::root_element(1)
 }
 
 /// Device elements with IDs from 1 on, with this parent to an ID.
 fn elements(count: usize, parent: impl Fn(u16) -> u16) -> Vec<Object> {
-    let mut objects = vec![device()];
-    for id in 1..=count as u16 {
-        let mut element = element(id);
-        element.number = id - 1;
-        element.parent = parent(id);
-        objects.push(element);
+    let mut objects = vec![device(), root()];
+    objects.extend((2..=count as u16).map(|id| Object::plain(Kind::Det, id)));
+    for element in &mut objects[1..] {
+        element.number = element.id - 1;
+        element.parent = parent(element.id);
     }
     objects
 }
@@ -87,7 +87,7 @@ fn elements(count: usize, parent: impl Fn(u16) -> u16) -> Vec<Object> {
 fn equal_ids(count: usize) -> Vec<Object> {
     let mut data = Object::plain(Kind::Dpd, 2);
     data.presentation = 2;
-    let mut objects = vec![device(), element(1)];
+    let mut objects = vec![device(), root()];
     objects.resize(2 + count, data);
     objects
 }
@@ -95,7 +95,7 @@ fn equal_ids(count: usize) -> Vec<Object> {
 /// Process data with IDs from the highest down, all with the last record as
 /// their presentation.
 fn falling_ids(count: usize) -> Vec<Object> {
-    let mut objects = vec![device(), element(1)];
+    let mut objects = vec![device(), root()];
     for id in (3..3 + count as u16).rev() {
         let mut data = Object::plain(Kind::Dpd, id);
         data.presentation = 2;
@@ -108,7 +108,7 @@ fn falling_ids(count: usize) -> Vec<Object> {
 /// A list of entries that name nothing, before others that all name the one
 /// process data.
 fn named_nothing(nothing: usize, data: usize) -> Vec<Object> {
-    let mut element = element(1);
+    let mut element = root();
     element.entries = (0..nothing).map(|index| 1_000 + index as u16).collect();
     element.entries.resize(nothing + data, 2);
     vec![device(), element, Object::plain(Kind::Dpd, 2)]
@@ -120,7 +120,7 @@ fn named_nothing(nothing: usize, data: usize) -> Vec<Object> {
 /// of them by the index of the entry.
 fn walks(bytes: usize, again: impl Fn(usize, usize) -> usize) -> Vec<Object> {
     let (different, entries) = longest_walks(bytes);
-    let mut element = element(1);
+    let mut element = root();
     let first_id = 2;
     for index in 0..entries {
         let data = if index < different {
@@ -148,7 +148,7 @@ fn crowded_id(index: usize) -> u16 {
 
 /// Process data with such IDs, and without a fault.
 fn crowded_ids(count: usize) -> Vec<Object> {
-    let mut objects = vec![device(), element(1)];
+    let mut objects = vec![device(), root()];
     let ids = (0..count).map(crowded_id);
     objects.extend(ids.map(|id| Object::plain(Kind::Dpd, id)));
     objects
@@ -191,7 +191,7 @@ fn listing(
     ddi: impl Fn(usize) -> usize,
     named: impl Fn(usize) -> usize,
 ) -> Vec<Object> {
-    let mut element = element(1);
+    let mut element = root();
     element.entries = (0..entries).map(|entry| crowded_id(named(entry))).collect();
     let mut objects = vec![device(), element];
     for index in 0..count {
@@ -221,7 +221,7 @@ fn longest_walks(bytes: usize) -> (usize, usize) {
 fn long_texts(bytes: usize) -> Vec<Object> {
     let text = "\u{1F33E}".repeat(32).into_bytes();
     let count = (bytes - DEVICE - ELEMENT) / (DATA + text.len());
-    let mut objects = vec![device(), element(1)];
+    let mut objects = vec![device(), root()];
     for id in 2..2 + count as u16 {
         let mut data = Object::plain(Kind::Dpd, id);
         data.texts[0] = text.clone();
@@ -251,6 +251,14 @@ mod tests {
             let length = pool_of(&extreme.objects).len();
             let just = 60_000..=MAX_POOL_BYTES;
             assert!(just.contains(&length), "{}", extreme.name);
+        }
+    }
+
+    #[test]
+    fn none_has_two_elements_of_type_device() {
+        for extreme in extremes(6_000) {
+            let roots = extreme.objects.iter().filter(|it| it.is_root_element());
+            assert!(roots.count() <= 1, "{}", extreme.name);
         }
     }
 

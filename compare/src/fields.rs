@@ -23,7 +23,7 @@ const LISTED_EVERY: usize = 7;
 fn sound() -> Vec<Object> {
     let mut objects = vec![
         Object::plain(Kind::Dvc, 0),
-        Object::plain(Kind::Det, 1),
+        Object::root_element(1),
         Object::plain(Kind::Det, 2),
         Object::plain(Kind::Dpd, 20),
         Object::plain(Kind::Dpt, 30),

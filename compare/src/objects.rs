@@ -10,6 +10,12 @@ pub const GREATEST_SCALE: u32 = 0x4CBE_BC20;
 pub const MOST_CHARACTERS: usize = 32;
 pub const GREATEST_NUMBER: u16 = 4_095;
 
+/// Types of device elements. The one of type device, the root element, stands
+/// for the whole device; no pool is sound without it.
+pub const DEVICE_TYPE: u8 = 1;
+pub const FUNCTION_TYPE: u8 = 2;
+pub const SECTION_TYPE: u8 = 4;
+
 /// A record. Fields that its kind does not have are not written.
 #[derive(Clone)]
 pub struct Object {
@@ -38,7 +44,7 @@ pub struct Object {
 
 impl Object {
     /// A record without texts, entries and references, save that a device
-    /// element's parent is the device.
+    /// element's parent is the device. A device element is a function.
     pub fn plain(kind: Kind, id: u16) -> Self {
         Object {
             kind,
@@ -48,7 +54,7 @@ impl Object {
             structure: [1; 7],
             localization: *b"en\0\0\0\0\xFF",
             extended: Vec::new(),
-            element_type: 1,
+            element_type: FUNCTION_TYPE,
             number: 0,
             parent: 0,
             entries: Vec::new(),
@@ -61,6 +67,19 @@ impl Object {
             scale_bits: 1.0_f32.to_bits(),
             decimals: 0,
         }
+    }
+
+    /// A plain device element, save that it is of type device.
+    pub fn root_element(id: u16) -> Self {
+        Object {
+            element_type: DEVICE_TYPE,
+            ..Object::plain(Kind::Det, id)
+        }
+    }
+
+    /// Whether it is a device element of type device.
+    pub fn is_root_element(&self) -> bool {
+        self.kind == Kind::Det && self.element_type == DEVICE_TYPE
     }
 
     /// Whether a list may name it.

@@ -1,6 +1,6 @@
 //! Sound pools of the mix that implements send.
 
-use crate::objects::Object;
+use crate::objects::{Object, DEVICE_TYPE, SECTION_TYPE};
 use crate::random::Random;
 use second::Kind;
 
@@ -59,7 +59,10 @@ impl Maker {
         let entries = self.random.between(1, MOST_ENTRIES) as u16;
         let presented = self.random.one_in(2);
         let mut element = self.object(Kind::Det);
-        element.element_type = if self.elements == 0 { 1 } else { 4 };
+        element.element_type = match self.elements {
+            0 => DEVICE_TYPE,
+            _ => SECTION_TYPE,
+        };
         element.number = self.elements;
         element.parent = u16::from(self.elements > 0);
         element.entries = (element.id + 1..=element.id + entries).collect();
@@ -102,5 +105,19 @@ impl Maker {
         (0..count)
             .map(|_| self.random.between(usize::from(b'a'), usize::from(b'z')) as u8)
             .collect()
+    }
+}
+
+#[cfg(test)]
+mod tests {
+    use super::*;
+
+    #[test]
+    fn a_pool_has_one_element_of_type_device() {
+        for size in (1_000..66_000).step_by(1_000) {
+            let objects = realistic(size);
+            let roots = objects.iter().filter(|it| it.is_root_element());
+            assert_eq!(roots.count(), 1, "{size} bytes");
+        }
     }
 }

@@ -225,10 +225,12 @@ static void begin(const char *name)
     longest_list = 0;
 }
 
+/* The first element of a pool is the device itself (type 1), the others are functions (type 2). */
 static void add_element(size_t id, size_t number, size_t parent)
 {
     memcpy(pool + pool_length, q + DEVICE, ELEMENT);
     put_number(pool_length + 3, id);
+    pool[pool_length + 5] = pool_length == DEVICE ? 1 : 2;
     put_number(pool_length + 7, number);
     put_number(pool_length + 9, parent);
     pool_length += ELEMENT;

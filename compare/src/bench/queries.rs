@@ -71,7 +71,7 @@ fn judge(command: u32, element: u32, ddi: u16) -> Work {
 
 /// A sound pool whose only list is as long as can be.
 fn one_list() -> Vec<Object> {
-    let mut element = Object::plain(Kind::Det, 1);
+    let mut element = Object::root_element(1);
     element.entries = (0..LISTED).map(|ddi| ddi + 2).collect();
     let mut objects = vec![Object::plain(Kind::Dvc, 0), element];
     for ddi in 0..LISTED {

@@ -271,7 +271,7 @@ fn subject_with(properties: u8, triggers: u8) -> Subject {
     element.number = 7;
     element.parent = 1;
     element.entries = vec![30, 20];
-    let mut other = Object::plain(Kind::Det, 1);
+    let mut other = Object::root_element(1);
     other.entries = vec![21];
     let data = |kind: Kind, id: u16, ddi: u16| {
         let mut data = Object::plain(kind, id);

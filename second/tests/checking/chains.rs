@@ -3,15 +3,19 @@
 use crate::pools::{faults, pool, Bytes, Det, Dpd, Dvc};
 
 /// Device elements with these IDs and parents behind a device; the first one
-/// is record 2.
+/// is record 2 and the root.
 fn elements(ids_and_parents: &[(u16, u16)]) -> Vec<u8> {
     let mut pool = pool(&[&Dvc::default()]);
     for (number, &(id, parent)) in (0..).zip(ids_and_parents) {
+        let plain = match number {
+            0 => Det::root(),
+            _ => Det::default(),
+        };
         let element = Det {
             id,
             number,
             parent,
-            ..Det::default()
+            ..plain
         };
         pool.extend(element.bytes());
     }

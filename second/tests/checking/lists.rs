@@ -26,7 +26,7 @@ fn property(id: u16, ddi: u16) -> Dpt<'static> {
 fn faults_of_list(entries: &[u16]) -> Vec<(u16, u8, u16)> {
     let element = Det {
         entries,
-        ..Det::default()
+        ..Det::root()
     };
     faults(&pool(&[
         &Dvc::default(),
@@ -202,7 +202,7 @@ fn the_longest_list_has_a_fault_for_each_entry() {
     let entries = vec![20; (65_535 - 44 - 12) / 2];
     let element = Det {
         entries: &entries,
-        ..Det::default()
+        ..Det::root()
     };
     let found = faults(&pool(&[&Dvc::default(), &element, &data(20, 1)]));
     let expected: Vec<_> = (3..=entries.len() as u16 + 1)

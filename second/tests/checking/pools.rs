@@ -50,11 +50,22 @@ pub struct Det<'a> {
     pub entries: &'a [u16],
 }
 
+impl Det<'_> {
+    /// A device element of type device (1), which every pool needs.
+    pub fn root() -> Self {
+        Det {
+            element_type: 1,
+            ..Det::default()
+        }
+    }
+}
+
+/// A function (type 2). Beside the root it needs an ID and a number of its own.
 impl Default for Det<'_> {
     fn default() -> Self {
         Det {
             id: 1,
-            element_type: 1,
+            element_type: 2,
             designator: b"",
             number: 0,
             parent: 0,
@@ -182,13 +193,12 @@ pub fn pool(records: &[&dyn Bytes]) -> Vec<u8> {
 
 /// A device, a device element of type 1 and these records as number 3 onward.
 pub fn after_device(records: &[&dyn Bytes]) -> Vec<u8> {
-    let (device, element) = (Dvc::default(), Det::default());
-    [pool(&[&device, &element]), pool(records)].concat()
+    [pool_p(), pool(records)].concat()
 }
 
 /// Pool P of the worked lines.
 pub fn pool_p() -> Vec<u8> {
-    pool(&[&Dvc::default(), &Det::default()])
+    pool(&[&Dvc::default(), &Det::root()])
 }
 
 /// Pool Q of the worked lines.
@@ -209,7 +219,7 @@ pub fn pool_of_all_kinds() -> Vec<u8> {
     let machine = Det {
         designator: b"all",
         entries: &[20, 30],
-        ..Det::default()
+        ..Det::root()
     };
     let tank = Det {
         id: 2,

@@ -56,7 +56,7 @@ fn labels_with_an_extended_label_of_each_length() {
             extended: &extended,
             ..Dvc::default()
         };
-        let pool = pool(&[&Det::default(), &device]);
+        let pool = pool(&[&Det::root(), &device]);
         let mut expected = Labels {
             structure: *b"1234567",
             localization: *b"en\0\0\0\0\xFF",

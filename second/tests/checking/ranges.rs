@@ -5,7 +5,7 @@ use crate::pools::{faults, faults_after_device, pool, Det, Dpd, Dvc, Dvp};
 const NO_FAULTS: [(u16, u8, u16); 0] = [];
 
 fn faults_of_device(device: &Dvc) -> Vec<(u16, u8, u16)> {
-    faults(&pool(&[device, &Det::default()]))
+    faults(&pool(&[device, &Det::root()]))
 }
 
 #[test]

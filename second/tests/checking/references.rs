@@ -185,7 +185,7 @@ fn a_record_that_breaches_rule_1_is_named_like_others() {
     };
     let element = Det {
         entries: &[0],
-        ..Det::default()
+        ..Det::root()
     };
     // Here 0 names the process data, which is no parent.
     let found = faults(&pool(&[&data, &Dvc::default(), &element]));

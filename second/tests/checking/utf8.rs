@@ -152,7 +152,7 @@ fn a_device_has_three_texts() {
                 expected.push((1, 4, index as u16 + 1));
             }
         }
-        assert_eq!(faults(&pool(&[&device, &Det::default()])), expected);
+        assert_eq!(faults(&pool(&[&device, &Det::root()])), expected);
     }
 }
 

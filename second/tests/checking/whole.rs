@@ -13,7 +13,7 @@ fn a_device_has_the_id_0() {
         };
         let element = Det {
             parent: id,
-            ..Det::default()
+            ..Det::root()
         };
         assert_eq!(faults(&pool(&[&device, &element])), [(1, 1, 1)]);
     }
@@ -27,7 +27,7 @@ fn a_device_with_the_id_65535_is_no_parent() {
     };
     let element = Det {
         parent: 65_535,
-        ..Det::default()
+        ..Det::root()
     };
     let expected = [(1, 1, 1), (2, 6, 1)];
     assert_eq!(faults(&pool(&[&device, &element])), expected);
@@ -111,13 +111,13 @@ fn each_device_after_the_first_is_a_fault() {
 
 #[test]
 fn the_only_device_may_come_last() {
-    let found = faults(&pool(&[&Det::default(), &Dpd::default(), &Dvc::default()]));
+    let found = faults(&pool(&[&Det::root(), &Dpd::default(), &Dvc::default()]));
     assert_eq!(found, NO_FAULTS);
 }
 
 #[test]
 fn a_pool_needs_a_device() {
-    let found = faults(&pool(&[&Det::default()]));
+    let found = faults(&pool(&[&Det::root()]));
     assert_eq!(found, [(0, 10, 1), (1, 6, 1)]);
     assert_eq!(faults(&pool(&[&Dpd::default()])), [(0, 10, 1), (0, 11, 1)]);
 }
@@ -143,7 +143,7 @@ fn two_elements_of_type_1_are_no_fault() {
     let other = Det {
         id: 2,
         number: 1,
-        ..Det::default()
+        ..Det::root()
     };
     assert_eq!(faults_after_device(&[&other]), NO_FAULTS);
 }
