@@ -5,9 +5,10 @@ use mathlib.Core.Logic.{_↔_}
 use mathlib.Core.List.{List, [], _∷_, _++_, List·Memᴰ}
 use lib.ListN.{length, replicate}
 use Rattle.wire.specs.Bytes.{leOf}
+use Rattle.wire.specs.Parts.{joined}
 use Rattle.records.specs.declared.Kind.{Kind}
 use Rattle.records.specs.declared.Kind.the-variants.{Dvc}
-use Rattle.division.specs.Division.{joined, Division}
+use Rattle.division.specs.Division.{Division}
 use Rattle.division.specs.Written.{Written, dvc, det, dpd, dpt, dvp}
 use Rattle.text.specs.Examined.{Sound}
 use Rattle.queries.specs.Queries.{acceptance, textNumber, textSpan, textOf, labelsNumber, structureLabel, localizationLabel, extendedLabel, extendedCount}
