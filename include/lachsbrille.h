@@ -20,11 +20,11 @@
  * Stack. The most bytes that a call takes, whatever pool, table or other memory it is lent:
  *
  *     read                 11,100
- *     check                57,100
- *     text                 57,300
- *     labels               57,500
- *     judge                57,400
- *     session_activate     57,200
+ *     check                59,200
+ *     text                 59,400
+ *     labels               59,600
+ *     judge                59,400
+ *     session_activate     59,200
  *     the others              300
  *
  * Refusals. A call gives 0 or a refusal's number; where several apply, the one that is listed first for the call below. Unless said
