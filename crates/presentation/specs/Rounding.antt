@@ -13,7 +13,7 @@ pub record NearestMultiple (n u q : ℕ) : Type 0 where
   pub even : (2 * (q * u) ≡ 2 * n + u) ⊎ (2 * n ≡ 2 * (q * u) + u) → q % 2 ≡ 0
 
 -- The bits, sign clear, of the f64 nearest to n times 2 ^ -1074, the least step between two f64.
--- As few binary digits are dropped as needed to keep 53. The exponent field counts the dropped ones; the leading 1 of 53 digits adds 1 to it.
+-- Only as many binary digits are dropped as leave at most 53. The exponent field counts them, and the leading 1 of 53 digits adds 1 to it.
 pub record NearestBits (n bits : ℕ) : Type 0 where
   pub dropped : ℕ
   pub kept : ℕ
@@ -22,7 +22,7 @@ pub record NearestBits (n bits : ℕ) : Type 0 where
   pub nearest : NearestMultiple n (2 ^ dropped) kept
   pub fields : bits ≡ dropped * 2 ^ 52 + kept
 
--- The magnitude of z times a normal f32 above 0 by its bits, in steps of 2 ^ -1074: with the field e the f32 is its 24 digits times 2 ^ (e - 150).
+-- |z| times a normal f32 above 0, given by its bits, in steps of 2 ^ -1074: with exponent field e the f32 is its 24 digits times 2 ^ (e - 150).
 abbrev pub exactProduct : ℤ → ℕ → ℕ
 exactProduct z scale = natAbs z * ((2 ^ 23 + scale % 2 ^ 23) * 2 ^ (scale / 2 ^ 23 + 924))
 

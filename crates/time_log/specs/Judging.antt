@@ -27,7 +27,7 @@ fieldsRefusal f over =
     (cond (not (knownStatus (f .status))) 44
     (cond over 45 0))))
 
--- the refusal of a record: 47 if the layout has a bit above 8; 40 if the bytes end before the count byte or the record's end; then the fields
+-- the refusal of a record: 47 for a layout bit above 8; 40 if the bytes end before the count byte or the record's end; then the fields
 unfoldable pub recordRefusal : ℕ → ℕ → List ℕ → ℕ
 recordRefusal layout logged s =
     cond (ltb 511 layout) 47
