@@ -12,7 +12,7 @@ pub record Answer : Type 0 where
 abbrev pub answer : ℕ → ℕ → Answer
 answer n v = record { number = n; value = v }
 
--- the number and the value that each outcome stands for
+-- the number and the value of each outcome
 abbrev pub answerOf : Outcome → Answer
 answerOf (Records count) = answer 0 count
 answerOf Empty = answer 1 0
