@@ -1,4 +1,4 @@
--- Worked records: the example of 000's D.49, one with all nine marks and no two equal bytes, and each limit from both sides. Definitions only.
+-- Worked records: the example of 000's D.49, one with all nine marks and no equal bytes, and each limit from both sides. Definitions only.
 use Prim.Native.Nat.{ℕ}
 use mathlib.Core.Path.{_≡_}
 use mathlib.Core.List.{List, [], _∷_, _++_}

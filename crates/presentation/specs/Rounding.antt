@@ -22,7 +22,7 @@ pub record NearestBits (n bits : ℕ) : Type 0 where
   pub nearest : NearestMultiple n (2 ^ dropped) kept
   pub fields : bits ≡ dropped * 2 ^ 52 + kept
 
--- |z| times a normal f32 above 0, given by its bits, in steps of 2 ^ -1074: with exponent field e the f32 is its 24 digits times 2 ^ (e - 150).
+-- |z| times a normal f32 above 0, given by its bits, in steps of 2 ^ -1074: with exponent field e it is its 24 digits times 2 ^ (e - 150).
 abbrev pub exactProduct : ℤ → ℕ → ℕ
 exactProduct z scale = natAbs z * ((2 ^ 23 + scale % 2 ^ 23) * 2 ^ (scale / 2 ^ 23 + 924))
 

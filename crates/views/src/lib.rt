@@ -1,5 +1,5 @@
-// The fields of the record that starts at a place, by value. A place is 16 bits, as every record's start is. Of a record
-// that is not whole, bytes past the pool's end read as 0. Every public function takes any bytes and any place.
+// The fields of the record that starts at a place, by value. A place has 16 bits, as every record's start does. If the record
+// is not whole, bytes past the pool's end are read as 0. Every public function takes any bytes and any place.
 use records::Device;
 use records::DeviceElement;
 use records::ProcessData;
@@ -11,7 +11,7 @@ ghost use Prim.Native.Nat.{ℕ, _+_, _*_, _≤_, _<_};
 ghost use Rattle.wire.specs.Bytes.{numberAt};
 ghost use Rattle.views.specs.Fields.{textAt, partOf, deviceOf, elementOf, entryOf, processDataOf, propertyOf, presentationOf};
 
-// The text behind the length byte at a place.
+// The place of the text after the length byte at a place.
 fn text(p: &[u8], at: usize) -> Span
     requires { ⌜ at < 131072 ⌝ }
     ensures { λ r. ⌜ (r ≡ textAt (now (p .entry)) at) × (r .to ≤ at + 256) ⌝ }
@@ -23,7 +23,7 @@ fn text(p: &[u8], at: usize) -> Span
     }
 }
 
-// The bytes of a span that lie in the pool.
+// The bytes of a span that are within the pool.
 pub fn part<'a>(p: &'a [u8], s: Span) -> &'a [u8]
     ensures { λ r. ⌜ now r ≡ partOf (now (p .entry)) s ⌝ }
 {
@@ -83,7 +83,7 @@ pub fn device_element(p: &[u8], at: u16) -> DeviceElement
     }
 }
 
-// An entry ID of a device element's list, counted from 0.
+// The ID that entry i of a device element's list names, counted from 0.
 pub fn entry(p: &[u8], at: u16, i: u16) -> u16
     ensures { λ r. ⌜ r ≡ entryOf (now (p .entry)) at i ⌝ }
 {
@@ -94,7 +94,7 @@ pub fn entry(p: &[u8], at: u16, i: u16) -> u16
     wire::read_u16(p, count_at + 2 + 2 * i as usize)
 }
 
-// Where the entry IDs of a device element's list begin.
+// The place where the entries of a device element's list begin.
 pub fn entries_from(p: &[u8], at: u16) -> usize
     ensures { λ r. ⌜ ((m : ℕ) → entryOf (now (p .entry)) at m ≡ numberAt 2 (now (p .entry)) (r + 2 * m)) × (r ≤ 65535 + 268) ⌝ }
 {
