@@ -1,5 +1,5 @@
-// Activating: the pool that is offered is checked once all of it has arrived and, if it is accepted, kept; with nothing offered the
-// pool that is kept already becomes active.
+// Activating: the pool that is offered is checked once all of it has arrived and, if it is accepted, kept; if nothing is offered, the
+// pool that is already kept becomes active.
 use checker::Verdict;
 use session::Answer;
 use session::Session;
@@ -15,7 +15,7 @@ ghost use Rattle.session.specs.Calls.{stepOf};
 ghost use Rattle.activation.specs.Activating.{keptActivated, settled, keptSettled, activateOf, keptAfter, activatedRecords};
 ghost use Rattle.activation.specs.Rows.{recordsFor, ListsFor};
 
-// Activates the pool that is kept already.
+// Activates the pool that is already kept.
 fn activate_kept(s: Session, room: usize) -> Step
     ensures { λ r. ⌜ stepOf r ≡ keptActivated s room ⌝ }
 {
@@ -53,7 +53,7 @@ fn unread(verdict: Verdict) -> Answer
     }
 }
 
-// What activating answers, and how many entries of the table are then filled.
+// The answer of activating, and how many entries of the table have to be filled.
 pub struct Activated {
     pub step: Step,
     pub records: usize,
@@ -77,7 +77,7 @@ pub fn activated_step(activated: Activated) -> Step
     activated.step
 }
 
-// Checks the pool that has arrived whole, by a list that reaches for every record, and keeps it if it is accepted.
+// Checks a pool of which all bytes have arrived, with a list that is long enough for every record, and keeps it if it is accepted.
 fn settle(s: Session, p: &[u8], kept: &mut [u8], room: usize, starts: &mut [u16]) -> Activated
     requires { ⌜ (1 ≤ length (now p)) × (length (now p) ≤ 65535) × (length (now p) ≤ length (now kept)) × Reaches (now starts) (now p) ⌝ }
     ensures { λ r. ⌜ (stepOf (r .step) ≡ settled s (now (p .entry)) room) × (now (kept .exit) ≡ keptSettled (now (p .entry)) room (now (kept .entry))) × (r .records ≡ countOf (now (p .entry)) room) × Listed (now (p .entry)) room (now (starts .exit)) ⌝ }
@@ -117,8 +117,8 @@ fn settle(s: Session, p: &[u8], kept: &mut [u8], room: usize, starts: &mut [u16]
     filling(step, records)
 }
 
-// Activates the pool that is offered, or else the one that is kept, for a table of so many entries. The list then begins with the
-// starts of the records of the pool that is checked, where it is read; where none is checked, no entry is filled.
+// Activates the pool that is offered, or else the one that is kept, for a table of `room` entries. If a pool is checked and read, the
+// list then begins with the starts of its records; if none is checked, no entry of the table has to be filled.
 pub fn activate_in(
     s: Session,
     staging: &[u8],
@@ -145,8 +145,8 @@ pub fn activate_in(
     settle(s, &staging[..announced], kept, room, starts)
 }
 
-// Activates the pool that is offered, or else the one that is kept. The table is filled where a pool is checked and read, from the
-// starts that the check lists its records by. A record has at least 12 bytes: the list reaches for every pool.
+// Activates the pool that is offered, or else the one that is kept. If a pool is checked and read, the table is filled from the starts
+// that the check has listed. A record has at least 12 bytes, so the list is long enough for every pool.
 pub fn activate(s: Session, staging: &[u8], kept: &mut [u8], table: &mut [Record]) -> Step
     ensures { λ r. ⌜ (stepOf r ≡ activateOf s (now (staging .entry)) (length (now (kept .entry))) (length (now (table .entry)))) × (now (kept .exit) ≡ keptAfter s (now (staging .entry)) (now (kept .entry)) (length (now (table .entry)))) × (now (table .exit) ≡ activatedRecords s (now (staging .entry)) (length (now (kept .entry))) (now (table .entry))) ⌝ }
 {

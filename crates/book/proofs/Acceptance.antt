@@ -1,4 +1,4 @@
--- The book keeps a pool exactly where it is accepted. Assumes nothing.
+-- The book keeps a pool exactly if it is accepted. Assumes nothing.
 use mathlib.Core.Path.{_≡_, refl, sym, ap, ap₂, _∙_}
 use mathlib.Core.Logic.{_↔_}
 use mathlib.Core.List.{List, [], _∷_, List·Memᴰ, List·Memᴰ·head, List·Memᴰ·not-nil}

@@ -1,4 +1,4 @@
--- What the definitions say of a call can be answered by a step of Rattle. Assumes nothing.
+-- For every outcome of a call that the definitions give there is a step of Rattle. Assumes nothing.
 use mathlib.Core.Path.{_≡_, refl, sym, ap, _∙_}
 use mathlib.Core.Bool.{Bool, true, false, cond, not, _||_}
 use mathlib.Core.List.{List, [], _∷_}

@@ -1,4 +1,4 @@
--- Functions that do as the session's definitions say: what is asked of them for the claim. Assumes nothing.
+-- Functions that do as the session's definitions say: what the claim needs to know of them. Assumes nothing.
 use mathlib.Core.Path.{_≡_}
 use mathlib.Core.List.{List, []}
 use Prim.Native.Nat.{ℕ}

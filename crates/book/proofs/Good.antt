@@ -1,4 +1,4 @@
--- What holds of every book that a list of calls leads to, and of the areas beside it. Assumes nothing.
+-- What holds of every book that a list of calls leads to, and of the areas. Assumes nothing.
 use mathlib.Core.Path.{_≡_, refl, sym, ap, _∙_}
 use mathlib.Core.Bool.{Bool, true, false, not, cond, _&&_, _||_, true≢false}
 use mathlib.Core.List.{List, []}

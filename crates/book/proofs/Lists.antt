@@ -1,4 +1,4 @@
--- Lists of calls: the claim, of any functions that do as the session's definitions say. Assumes nothing.
+-- Lists of calls: the claim, for any functions that do as the session's definitions say. Assumes nothing.
 use mathlib.Core.Path.{_≡_, refl, sym, ap, ap₂, _∙_}
 use mathlib.Core.Logic.{⊎-elim}
 use mathlib.Core.List.{List, [], _∷_, map, List·Memᴰ, List·Memᴰ·not-nil, List·Memᴰ·cases-cons}

@@ -1,5 +1,5 @@
--- The plain book of document 01: what a client sent, and what it was told. It is fed the calls' arguments and of the two areas
--- only their lengths; of the session's definitions it has none, and of all others only checking and the table after reading.
+-- The plain book of document 01: what a client sent, and what it was told. It depends on the calls' arguments and on the lengths of the
+-- two areas only. It uses no definition of a session; from other crates it uses only checking and the table after reading.
 -- Definitions only.
 use Prim.Native.Nat.{ℕ, _-_}
 use mathlib.Core.Bool.{Bool, true, false, cond, not, _&&_, _||_}
@@ -32,7 +32,7 @@ pub record Said : Type 0 where
 abbrev pub said : ℕ → ℕ → Said
 said n place = record { number = n; place = place; first = fault 0 0 0 }
 
--- received and the kept size are the lengths of arrived and kept
+-- the book: whether a pool is offered, its announced size, the bytes that have arrived, the pool that is kept, whether it is active
 pub record Book : Type 0 where
   pub offered : Bool
   pub announced : ℕ
@@ -44,30 +44,30 @@ pub record Book : Type 0 where
 abbrev pub blank : Book
 blank = record { offered = false; announced = 0; arrived = []; kept = []; active = false }
 
--- a stage's end
+-- the book at the end of a stage
 abbrev pub over : Book → Book
 over b = record { offered = false; announced = 0; arrived = []; kept = b .kept; active = b .active }
 
--- a step of the book: the book after a call, and what was told
+-- a step of the book: the book after a call, and what the client is told
 pub record Noted : Type 0 where
   pub book : Book
   pub told : Said
 
--- a call that leaves this book and tells a number without a place
+-- a call after which the book is this one, and whose answer is a number without a place
 abbrev pub note : Book → ℕ → Noted
 note b n = record { book = b; told = said n 0 }
 
--- one of two, by a test: `cond`, in words
+-- a choice by a test: another notation for `cond`
 infixr 10 if_then_else_
 abbrev pub if_then_else_ {ℓ} : {A : Type ℓ} → Bool → A → A → A
 if t then a else b = cond t a b
 
--- the first fault of a list, zeros where there is none
+-- the first fault of a list, zeros if there is none
 abbrev pub firstIn : List Fault → Fault
 firstIn [] = fault 0 0 0
 firstIn (f ∷ fs) = f
 
--- what checking says of the bytes that arrived: a refusal 3 to 7, a fault, or that they are kept from now on
+-- what follows from checking the bytes that have arrived: a refusal 3 to 7, a fault, or that they are kept from now on
 abbrev pub checked : Book → Answer → Noted
 checked b a =
     if eqb (a .number) 0 then
@@ -77,7 +77,7 @@ checked b a =
     else
     (record { book = if eqb (a .number) 7 then b else over b; told = said (a .number) (a .value) })
 
--- one call, over areas of ls and lk bytes
+-- one call, over a staging area of ls bytes and a kept area of lk bytes
 unfoldable pub noted : ℕ → ℕ → Book → Call → Noted
 noted ls lk b (offer n) =
     if eqb n 0 || ltb 65535 n then note b 20 else
@@ -105,7 +105,7 @@ noted ls lk b deactivate =
 noted ls lk b delete = note blank 0
 noted ls lk b lost = note (record { offered = false; announced = 0; arrived = []; kept = b .kept; active = false }) 0
 
--- the book after a list of calls, and what was told call by call
+-- the book after a list of calls
 unfoldable pub bookOf : ℕ → ℕ → Book → List Call → Book
 bookOf ls lk b [] = b
 bookOf ls lk b (c ∷ cs) = bookOf ls lk (noted ls lk b c .book) cs
@@ -115,8 +115,8 @@ unfoldable pub saidOf : ℕ → ℕ → Book → List Call → List Said
 saidOf ls lk b [] = []
 saidOf ls lk b (c ∷ cs) = noted ls lk b c .told ∷ saidOf ls lk (noted ls lk b c .book) cs
 
--- the table that a call leaves: activating reads an offered pool that is there whole, with both areas long enough, and fills the
--- table where reading succeeds. Other calls have no table
+-- the table after a call: activating reads an offered pool if all of it has arrived and both areas are long enough, and fills the
+-- table if reading succeeds. Other calls have no table
 unfoldable pub tabled : ℕ → ℕ → Book → Call → List Record
 tabled ls lk b (offer n) = []
 tabled ls lk b (transfer piece) = []

@@ -1,5 +1,5 @@
 -- The session calls of Rattle. Each call's outcome is one that the contract of its function allows: `Asked` and `Learnt` are the
--- prover's own readings of what a function asks of its caller and of what it promises, so nothing here says a contract again.
+-- prover's own readings of what a function asks of its caller and of what it promises, so no contract is repeated here.
 -- Definitions only.
 use mathlib.Core.Path.{_≡_, refl}
 use mathlib.Core.List.{List, []}
@@ -22,12 +22,12 @@ use Rattle.book.specs.Says.{Says}
 use Rattle.book.specs.Book.{Said, Call, offer, transfer, activate, deactivate, delete, lost}
 use Rattle.book.specs.Run.{Functions}
 
--- what activating promises, which has no such reading since it takes a slice of records: the contract's own text, which `refl`
--- holds to the whole of the contract. It asks nothing
+-- what activating promises. The prover has no such reading for it, since it takes a slice of records: so this is the contract's own
+-- text, and `refl` checks that it is the whole contract. It asks nothing of its caller
 abbrev pub activate-says : Says activate-contract.ended (λ M. activate-contract.clauses)
 activate-says = record { Learnt = _; exact = λ w. refl }
 
--- one call, from a session value, staging and the kept area: the step that it returns, and what it leaves in the areas and the table
+-- one call, from a session value, staging and the kept area: the step that it returns, and the areas and the table afterwards
 pub data Does : Session → List ℕ → List ℕ → Call → Step → List ℕ → List ℕ → List Record → Type 0 where
   does-offer : (κs : Lfts 2) (s : Session) (n : ℕ) (st k : RefT (List ℕ)) (r : Step)
       → offer-reads.Asked κs (s, (n, (st, (k, tt)))) → offer-reads.Learnt κs (s, (n, (st, (k, tt)))) r (s, (n, (st, (k, tt))))
@@ -49,7 +49,7 @@ pub data Does : Session → List ℕ → List ℕ → Call → Step → List ℕ
 pub data New : Session → Type 0 where
   is-new : (κs : Lfts 0) (s : Session) → new-reads.Asked κs tt → new-reads.Learnt κs tt s tt → New s
 
--- no call asks anything of its caller; of activating `activate-says` says it
+-- no call asks anything of its caller; for activating, this is part of `activate-says`
 pub record Free : Type 0 where
   pub of-new : (κs : Lfts 0) → new-reads.Asked κs tt
   pub of-offer : (κs : Lfts 2) (s : Session) (n : ℕ) (st k : RefT (List ℕ)) → offer-reads.Asked κs (s, (n, (st, (k, tt))))
@@ -58,10 +58,10 @@ pub record Free : Type 0 where
   pub of-delete : (κs : Lfts 0) (s : Session) → delete-reads.Asked κs (s, tt)
   pub of-lost : (κs : Lfts 0) (s : Session) → lost-reads.Asked κs (s, tt)
 
--- what a client is told by an answer: the numbers that the session's own table gives for it
+-- what an answer tells a client: the numbers that `replyOf` gives for it
 abbrev pub told : Answer → Said
 told a = record { number = replyOf a .number; place = replyOf a .place; first = replyOf a .first }
 
--- the functions of Rattle, as the claim takes them
+-- the functions of Rattle, in the form that the claim takes
 abbrev pub inRattle : Functions
 inRattle = record { Step = Step; session = λ r. r .session; told = λ r. told (r .answer); New = New; Does = Does; Free = Free }

@@ -8,28 +8,28 @@ use Rattle.session.specs.declared.Session.{Session}
 use Rattle.working_table.specs.declared.Record.{Record}
 use Rattle.book.specs.Book.{Said, Book, Call}
 
--- the functions of a session: what the claim is stated of, once for all that keep it. Those of Rattle stand in `InRattle`, those
--- that C calls in `InC` of the crate `c_sessions`
+-- a set of functions for the calls of a session, for which the claim is stated. Those of Rattle are in `InRattle`, those that C calls in
+-- `InC` of the crate `c_sessions`
 pub record Functions : Type 1 where
-  -- what a call returns: the value that it leaves, and what the client is told
+  -- what a call returns: the session value after it, and what the client is told
   pub Step : Type 0
   pub session : Step → Session
   pub told : Step → Said
   -- a new session value
   pub New : Session → Type 0
-  -- one call, from a session value, staging and the kept area: the step that it may return, and what it may leave in the two areas
-  -- and in its table
+  -- one call, from a session value, staging and the kept area: the step that it may return, and what the two areas and its table may
+  -- hold afterwards
   pub Does : Session → List ℕ → List ℕ → Call → Step → List ℕ → List ℕ → List Record → Type 0
   -- no call asks anything of its caller
   pub Free : Type 0
 
--- a list of calls: each gets the session value and the areas as the last one left them
+-- a run of a list of calls: each call gets the session value and the areas as the call before left them
 pub data Runs (F : Functions) : Session → List ℕ → List ℕ → List Call → List (F .Step) → Session → List ℕ → List ℕ → Type 0 where
   ends : (s : Session) (st k : List ℕ) → Runs F s st k [] [] s st k
   goes : {s s' : Session} {st k st' k' st'' k'' : List ℕ} {t' : List Record} {c : Call} {cs : List Call} {r : F .Step} {qs : List (F .Step)}
       → F .Does s st k c r st' k' t' → Runs F (F .session r) st' k' cs qs s' st'' k'' → Runs F s st k (c ∷ cs) (r ∷ qs) s' st'' k''
 
--- the session value that a book stands for, field by field
+-- the session value that corresponds to a book, field by field
 abbrev pub sessionOf : Book → Session
 sessionOf b =
     record {

@@ -1,4 +1,4 @@
-// The one claim about every list of session calls, of the functions in Rattle; `c_sessions` has it of those that C calls. The function
+// The claim about every list of session calls, for the functions in Rattle; `c_sessions` has it for those that C calls. The function
 // does nothing: its contract is the claim, so that the check's report names it.
 ghost use mathlib.Core.List.{List};
 ghost use Prim.Native.Nat.{ℕ};

@@ -2,7 +2,7 @@
 use Rattle.messages.specs.Reading.{Fields}
 use Rattle.c_answers.specs.declared.MessageFields.{MessageFields}
 
--- the numbers of a message by their names
+-- the fields of a C caller's message, as the record that reading is defined by
 abbrev pub fieldsIn : MessageFields → Fields
 fieldsIn m =
     record {

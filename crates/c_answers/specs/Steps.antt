@@ -3,7 +3,7 @@ use Rattle.faults.specs.Faults.{fault}
 use Rattle.session.specs.Calls.{Told}
 use Rattle.c_answers.specs.declared.StepFields.{StepFields}
 
--- the value is the session's own; number, place and first fault are those of the reply
+-- the session value is the same; number, place and first fault are those of the reply
 abbrev pub stepIn : StepFields → Told
 stepIn r =
     record {

@@ -1,4 +1,4 @@
-// Answers as a C caller gets them: the number is the result, and what goes with it is put into lent numbers or a struct of numbers.
+// Answers as a C caller gets them: the number is the result; a place, a count or fields are written to lent numbers or to a struct.
 use checker::Verdict;
 use judging::Judgement;
 use messages::Message;
@@ -37,8 +37,8 @@ pub fn give_place(place: Place, from: &mut usize, to: &mut usize) -> u32
     place.number
 }
 
-// A message that is read: number 0 and its fields, an acknowledge with command 13, or the number of a refusal with zeros. In this
-// order they take 16 bytes, which every machine hands back in two registers.
+// A message that is read: number 0 and its fields, where an acknowledge has command 13, or the number of a refusal with zeros. In this
+// order the fields take 16 bytes, which x86-64 and aarch64 both return in two registers.
 #[repr(C)]
 pub struct MessageFields {
     pub number: u32,
@@ -108,7 +108,7 @@ pub fn give_judgement(judgement: Judgement, error: &mut u8) -> u32
     judgement.number
 }
 
-// The value that a session call leaves and its answer: number 0, or a refusal's number with its place or the first fault.
+// The session value after a call and the call's answer: number 0, or a refusal's number with its place or the first fault.
 #[repr(C)]
 pub struct StepFields {
     pub session: Session,

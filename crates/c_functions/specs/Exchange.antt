@@ -18,8 +18,8 @@ use Rattle.terminal.proofs.exchange.lachsbrille_message_write_value as value-c
 use Rattle.terminal.proofs.exchange.lachsbrille_message_write_acknowledge as acknowledge-c
 use Rattle.terminal.proofs.display.lachsbrille_displayed as displayed-c
 
--- What each contract says is its own text. `refl` holds it to the whole of the contract: none asks anything of its caller, and no clause
--- can be left out.
+-- Below, each contract is given by its own text, and `refl` checks that this is the whole contract: no function asks anything of its
+-- caller, and no clause can be left out.
 
 -- what the contract of `lachsbrille_message_read` says
 abbrev pub message-says : Says message-c.ended (λ M. message-c.clauses)
@@ -37,7 +37,7 @@ acknowledge-says = record { Learnt = _; exact = λ w. refl }
 abbrev pub displayed-says : Says displayed-c.ended (λ M. displayed-c.clauses)
 displayed-says = record { Learnt = _; exact = λ w. refl }
 
--- of whatever is given: messages are read and written, and values displayed, as the definitions say, and lent memory is left so
+-- for all arguments: messages are read and written, and values displayed, as the definitions say, which also give the lent memory
 pub record MessagesExchanged : Type 0 where
   pub read : (κs : Lfts 1) (s : RefT (List ℕ)) (r : MessageFields) → message-says .Learnt κs (s, tt) r (s, tt) → fieldsIn r ≡ readOf (now s)
   pub value : (κs : Lfts 1) (to : RefT (List ℕ)) (command element ddi : ℕ) (value : ℤ) (r : ℕ) (to' : List ℕ)

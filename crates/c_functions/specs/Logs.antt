@@ -23,8 +23,8 @@ use Rattle.terminal.proofs.logs.lachsbrille_log_read_record as record-c
 use Rattle.terminal.proofs.logs.lachsbrille_log_write_record as written-c
 use Rattle.terminal.proofs.logs.lachsbrille_log_read as log-c
 
--- What each contract says is its own text. `refl` holds it to the whole of the contract: none asks anything of its caller, and no clause
--- can be left out.
+-- Below, each contract is given by its own text, and `refl` checks that this is the whole contract: no function asks anything of its
+-- caller, and no clause can be left out.
 
 -- what the contract of `lachsbrille_log_optional_fields` says
 abbrev pub fields-says : Says fields-c.ended (λ M. fields-c.clauses)
@@ -42,7 +42,7 @@ written-says = record { Learnt = _; exact = λ w. refl }
 abbrev pub log-says : Says log-c.ended (λ M. log-c.clauses)
 log-says = record { Learnt = _; exact = λ w. refl }
 
--- of whatever is given: layouts, records and logs are read, and records written, as the definitions say, and lent memory is left so
+-- for all arguments: layouts, records and logs are read, and records written, as the definitions say, which also give the lent memory
 pub record LogsKept : Type 0 where
   pub fields : (κs : Lfts 0) (layout : ℕ) (r : Marks) → fields-says .Learnt κs (layout, tt) r (layout, tt)
       → (r .number ≡ cond (ltb 511 layout) 47 0) × (r .count ≡ cond (ltb 511 layout) 0 (marksSet layout))

@@ -1,4 +1,4 @@
--- What the C functions promise that give the release and the fields of a record, whatever the pool and the place. Definitions only.
+-- What the C functions for the release and for the fields of a record promise, whatever the pool and the place. Definitions only.
 use Prim.Native.Nat.{ℕ}
 use mathlib.Core.Path.{_≡_, refl}
 use mathlib.Core.List.{List}
@@ -19,8 +19,8 @@ use Rattle.terminal.proofs.objects.lachsbrille_read_process_data as data-c
 use Rattle.terminal.proofs.objects.lachsbrille_read_property as property-c
 use Rattle.terminal.proofs.objects.lachsbrille_read_presentation as presentation-c
 
--- What each contract says is its own text. `refl` holds it to the whole of the contract: none asks anything of its caller, and no clause
--- can be left out.
+-- Below, each contract is given by its own text, and `refl` checks that this is the whole contract: no function asks anything of its
+-- caller, and no clause can be left out.
 
 -- what the contract of `lachsbrille_version` says
 abbrev pub version-says : Says version-c.ended (λ M. version-c.clauses)
@@ -50,7 +50,7 @@ property-says = record { Learnt = _; exact = λ w. refl }
 abbrev pub presentation-says : Says presentation-c.ended (λ M. presentation-c.clauses)
 presentation-says = record { Learnt = _; exact = λ w. refl }
 
--- of whatever is given: the version, and the fields of a record from any start
+-- for all arguments: the release, and the fields of a record from any start
 pub record ObjectsRead : Type 0 where
   pub version : (κs : Lfts 0) (r : ℕ) → version-says .Learnt κs tt r tt → r ≡ 10000
   pub device : (κs : Lfts 1) (p : RefT (List ℕ)) (start : ℕ) (r : Device) → device-says .Learnt κs (p, (start, tt)) r (p, (start, tt)) → r ≡ deviceOf (now p) start

@@ -28,8 +28,8 @@ use Rattle.terminal.proofs.lachsbrille_text as text-c
 use Rattle.terminal.proofs.lachsbrille_labels as labels-c
 use Rattle.terminal.proofs.exchange.lachsbrille_judge as judge-c
 
--- What each contract says is its own text. `refl` holds it to the whole of the contract: none asks anything of its caller, and no clause
--- can be left out.
+-- Below, each contract is given by its own text, and `refl` checks that this is the whole contract: no function asks anything of its
+-- caller, and no clause can be left out.
 
 -- what the contract of `lachsbrille_read` says
 abbrev pub read-says : Says read-c.ended (λ M. read-c.clauses)
@@ -55,13 +55,13 @@ labels-says = record { Learnt = _; exact = λ w. refl }
 abbrev pub judge-says : Says judge-c.ended (λ M. judge-c.clauses)
 judge-says = record { Learnt = _; exact = λ w. refl }
 
--- a pool read: number and value are reading's answer, of which `Reads` says by the division alone what it means
+-- a pool read: number and value are reading's answer; `Reads` says what the answer means, by the division alone
 pub record ReadInto (p : List ℕ) (before : List Record) (number value : ℕ) (left : List Record) : Type 0 where
   pub answered : answer number value ≡ readOf p (length before)
   pub means : Reads p (length before)
   pub table : Filled p before left
 
--- a pool checked: the same of checking, and the fault buffer
+-- a pool checked: the same for checking, and the fault buffer
 pub record CheckedInto (p : List ℕ) (before : List Record) (faults : List ℕ) (number value : ℕ) (left : List Record) (written : List ℕ) : Type 0 where
   pub answered : answer number value ≡ checkOf p (length before)
   pub means : (rs : List (List ℕ)) (d : Division p rs) → Sized p → length rs ≤ length before → Checked p rs d (length before)
@@ -75,7 +75,7 @@ pub record JudgedInto (p : List ℕ) (before : List Record) (command element ddi
   pub table : element ≤ 4095 → Filled p before left
   pub stays : 4095 < element → left ≡ before
 
--- of whatever is given: a pool is read, checked, asked and a command judged as the definitions say, and lent memory is left so
+-- for all arguments: a pool is read, checked and queried and a command judged as the definitions say, which also give the lent memory
 pub record PoolsAnswered : Type 0 where
   pub read : (κs : Lfts 3) (p : RefT (List ℕ)) (t : RefT (List Record)) (v : RefT ℕ) (r : ℕ) (t' : List Record) (v' : ℕ)
       → read-says .Learnt κs (p, (t, (v, tt))) r (p, (at-last t t', (at-last v v', tt))) → ReadInto (now p) (now t) r v' t'

@@ -1,5 +1,5 @@
-// What every function of C but those of a session promises, tied to its contract: a contract that says less, or that asks something of
-// its caller, breaks the claim. The functions do nothing: their contracts are the claims, so that the check's report names them.
+// What every C function except those of a session promises, tied to its contract: a contract that promises less, or that asks something
+// of its caller, breaks the claim. The functions do nothing: their contracts are the claims, so that the check's report names them.
 ghost use Rattle.c_functions.specs.Pools.{PoolsAnswered};
 ghost use Rattle.c_functions.specs.Objects.{ObjectsRead};
 ghost use Rattle.c_functions.specs.Exchange.{MessagesExchanged};

@@ -1,4 +1,4 @@
--- The session calls of C: from `lachsbrille_session_new` on, what the contracts of the exported functions allow. As for the functions
+-- The session calls of C, from `lachsbrille_session_new` on: what the contracts of the exported functions allow. As for the functions
 -- of Rattle, `Asked` and `Learnt` are the prover's own readings of these contracts. Definitions only.
 use mathlib.Core.Path.{_≡_, refl}
 use mathlib.Core.List.{List, []}
@@ -20,12 +20,12 @@ use Rattle.book.specs.Says.{Says}
 use Rattle.book.specs.Book.{Said, Call, offer, transfer, activate, deactivate, delete, lost}
 use Rattle.book.specs.Run.{Functions}
 
--- what activating promises, which has no such reading since it takes a slice of records: the contract's own text, which `refl`
--- holds to the whole of the contract. It asks nothing
+-- what activating promises. The prover has no such reading for it, since it takes a slice of records: so this is the contract's own
+-- text, and `refl` checks that it is the whole contract. It asks nothing of its caller
 abbrev pub activate-says : Says activate-contract.ended (λ M. activate-contract.clauses)
 activate-says = record { Learnt = _; exact = λ w. refl }
 
--- one call, from a session value, staging and the kept area: the step that it returns, and what it leaves in the areas and the table
+-- one call, from a session value, staging and the kept area: the step that it returns, and the areas and the table afterwards
 pub data Does : Session → List ℕ → List ℕ → Call → StepFields → List ℕ → List ℕ → List Record → Type 0 where
   does-offer : (κs : Lfts 2) (s : Session) (n : ℕ) (st k : RefT (List ℕ)) (r : StepFields)
       → offer-reads.Asked κs (s, (n, (st, (k, tt)))) → offer-reads.Learnt κs (s, (n, (st, (k, tt)))) r (s, (n, (st, (k, tt))))
@@ -47,7 +47,7 @@ pub data Does : Session → List ℕ → List ℕ → Call → StepFields → Li
 pub data New : Session → Type 0 where
   is-new : (κs : Lfts 0) (s : Session) → new-reads.Asked κs tt → new-reads.Learnt κs tt s tt → New s
 
--- no call asks anything of its caller; of activating `activate-says` says it
+-- no call asks anything of its caller; for activating, this is part of `activate-says`
 pub record Free : Type 0 where
   pub of-new : (κs : Lfts 0) → new-reads.Asked κs tt
   pub of-offer : (κs : Lfts 2) (s : Session) (n : ℕ) (st k : RefT (List ℕ)) → offer-reads.Asked κs (s, (n, (st, (k, tt))))
@@ -56,10 +56,10 @@ pub record Free : Type 0 where
   pub of-delete : (κs : Lfts 0) (s : Session) → delete-reads.Asked κs (s, tt)
   pub of-lost : (κs : Lfts 0) (s : Session) → lost-reads.Asked κs (s, tt)
 
--- what a client is told by a step: its own numbers
+-- what a step tells a client: its own numbers
 abbrev pub told : StepFields → Said
 told r = record { number = r .number; place = r .place; first = fault (r .«record») (r .rule) (r .item) }
 
--- the functions of C, as the claim takes them
+-- the functions of C, in the form that the claim takes
 abbrev pub inC : Functions
 inC = record { Step = StepFields; session = λ r. r .session; told = told; New = New; Does = Does; Free = Free }

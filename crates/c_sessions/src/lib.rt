@@ -1,4 +1,4 @@
-// The one claim about every list of session calls, of the functions that a terminal runs: those of C. The function does nothing: its
+// The claim about every list of session calls, for the functions that a terminal calls: those of C. The function does nothing: its
 // contract is the claim, so that the check's report names it.
 ghost use mathlib.Core.List.{List};
 ghost use Prim.Native.Nat.{ℕ};

@@ -1,3 +1,3 @@
--- What belongs to no one function.
+-- Laws that are not about a single function.
 pub mod Computed
 pub mod Listed

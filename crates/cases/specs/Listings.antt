@@ -26,7 +26,7 @@ abbrev pub refusedText : List ℕ
 refusedText =
     0x72 ∷ 0x65 ∷ 0x66 ∷ 0x75 ∷ 0x73 ∷ 0x65 ∷ 0x64 ∷ 0x20 ∷ 0x34 ∷ 0x20 ∷ 0x35 ∷ 0x39 ∷ 0x0A ∷ []
 
--- what is listed of each
+-- these are the listings
 pub record Listings : Type 0 where
   pub accepted : listingOf poolP ≡ acceptedText
   pub faulty : listingOf (take 31 poolP) ≡ faultText

@@ -3,14 +3,14 @@ use Prim.Native.Nat.{ℕ}
 use mathlib.Core.List.{List, [], _∷_, _++_}
 use lib.ListN.{replicate}
 
--- P's device: empty texts, NAME of zeros, structure label of seven ones, localization label
+-- P's device: empty texts, a NAME of zeros, a structure label of seven ones, a localization label
 abbrev pub device : List ℕ
 device =
     0x44 ∷ 0x56 ∷ 0x43 ∷ 0 ∷ 0 ∷ 0 ∷ 0 ∷ []
     ++ replicate 8 0 ++ 0 ∷ []
     ++ replicate 7 1 ++ 0x65 ∷ 0x6E ∷ 0 ∷ 0 ∷ 0 ∷ 0 ∷ 0xFF ∷ 0 ∷ []
 
--- P, with this number as the parent of its device element
+-- P with a given parent ID of its device element
 abbrev pub poolWith : ℕ → List ℕ
 poolWith parent = device ++ 0x44 ∷ 0x45 ∷ 0x54 ∷ 1 ∷ 0 ∷ 1 ∷ 0 ∷ 0 ∷ 0 ∷ parent ∷ 0 ∷ 0 ∷ 0 ∷ []
 

@@ -1,4 +1,4 @@
--- Until the first parent that does not stand before its child, every chain ends. Assumes nothing.
+-- Up to the first parent that does not come before its child, every chain ends. Assumes nothing.
 use mathlib.Core.Path.{_≡_, ap, _∙_}
 use mathlib.Core.Bool.{false, not}
 use mathlib.Core.List.{List}

@@ -1,4 +1,4 @@
--- Doubling the steps of every chain in place, turn by turn, and what is known at the end. Assumes nothing.
+-- Doubling the steps of every chain in place, turn by turn, and what holds at the end. Assumes nothing.
 use mathlib.Core.Path.{_≡_, refl, sym, ap, _∙_}
 use mathlib.Core.Bool.{Bool, true, false, not, _&&_, _||_, true≢false}
 use mathlib.Core.List.{List}

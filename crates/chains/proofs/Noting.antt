@@ -1,4 +1,4 @@
--- Marks under the keys of the first records, and under the records that a test hits. Assumes nothing.
+-- Marks for the keys of the first records, and for the records for which a test holds. Assumes nothing.
 use mathlib.Core.Path.{_≡_, sym, ap, _∙_}
 use mathlib.Core.Bool.{Bool, true, false, not, _&&_, _||_}
 use mathlib.Core.List.{List}

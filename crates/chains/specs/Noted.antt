@@ -1,4 +1,4 @@
--- Marks under the keys of records and under records, for functions inside. Definitions only.
+-- Marks for the keys of records and for records, for internal functions. Definitions only.
 use Prim.Native.Nat.{ℕ, suc, _*_, _<_}
 use mathlib.Core.Path.{_≡_}
 use mathlib.Core.Bool.{Bool, not, _&&_}
@@ -12,6 +12,6 @@ use Rattle.naming.specs.Naming.{firstOf}
 abbrev pub Noted : ℕ → (ℕ → ℕ) → ℕ → List ℕ → Type 0
 Noted bound key n numbers = (x : ℕ) → x < bound → bitAt numbers x ≡ not (eqb (firstOf key (suc x) n) 0)
 
--- of the numbers in a list of marks those below n are marked that a test hits, and no other
+-- in a list of marks exactly those numbers below n are marked for which the test holds
 abbrev pub HitsMarked : (ℕ → Bool) → ℕ → List ℕ → Type 0
 HitsMarked test n marks = (j : ℕ) → j < 8 * length marks → bitAt marks j ≡ (ltb j n && test j)

@@ -1,5 +1,5 @@
-// Chains of parents and which of them end, and the numbers of device elements and which of them come again: what is known of a record only
-// by many others, found for all records at once and marked under them.
+// Which chains of parents never end, and which device elements repeat an element number. Both depend on many records, so they are found
+// for all records at once and marked by record number.
 ghost use mathlib.Core.Path.{_≡_};
 ghost use mathlib.Core.Bool.{false, not, _&&_};
 ghost use Prim.Native.Nat.{ℕ, suc, _+_, _*_, _≤_, _<_};
@@ -15,8 +15,8 @@ ghost use Rattle.rules.specs.Table.{repeats, elementKey};
 ghost use Rattle.chains.specs.Steps.{Climbs, Doubles, Closed, Ended};
 ghost use Rattle.chains.specs.Noted.{Noted};
 
-// Puts under the number of each record where a step up leads, or more steps: from a parent that stands before it on to where
-// that one's lead. Tells whether a chain is left that has not ended.
+// Stores for each record, by its number, where one or more steps up its chain of parents lead: to the parent or, if the parent comes
+// before the record, to where the parent's own steps lead. Returns whether there is a chain that has not ended.
 fn parents(p: &[u8], starts: &[u16], heads: &[u16], next: &[u16], ups: &mut [u16]) -> bool
     requires { ⌜ Names (now p) (now starts) (now heads) (now next) × (length (now starts) ≤ length (now ups)) × Blank (now ups) ⌝ }
     ensures { λ left. ⌜ Climbs (parentOf (now (p .entry)) (entriesOf (now (p .entry)) (now (starts .entry)))) (length (entriesOf (now (p .entry)) (now (starts .entry)))) 1 (now (ups .exit)) × (left ≡ false → (r : ℕ) → r ≤ length (entriesOf (now (p .entry)) (now (starts .entry))) → getD (now (ups .exit)) r 0 ≡ 0) ⌝ }
@@ -35,8 +35,8 @@ fn parents(p: &[u8], starts: &[u16], heads: &[u16], next: &[u16], ups: &mut [u16
     left
 }
 
-// Replaces each step up by the step from there: at least twice as many. It goes from the last record to the first, so that a
-// chain whose parents stand behind is climbed in one round. Tells whether a chain has come to its end in this round.
+// Extends the steps of each record by those from where they lead, which at least doubles them. It goes from the last record to the first,
+// so that a chain whose parents come after their children is climbed in one round. Returns whether a chain has ended in this round.
 fn jump(ups: &mut [u16], count: usize) -> bool
     requires { ⌜ (count ≤ 8192) × (count < length (now ups)) × (getD (now ups) 0 0 ≡ 0) × ((r : ℕ) → r ≤ count → getD (now ups) r 0 ≤ count) ⌝ }
     ensures { λ ended. ⌜ Doubles count (now (ups .entry)) (now (ups .exit)) × (ended ≡ false → Closed count (now (ups .entry)) × ((r : ℕ) → r ≤ count → getD (now (ups .entry)) r 0 ≡ 0 → getD (now (ups .exit)) r 0 ≡ 0)) ⌝ }
@@ -53,7 +53,7 @@ fn jump(ups: &mut [u16], count: usize) -> bool
     ended
 }
 
-// Finds for every record whether its chain of parents ends. After a round in which none has come to its end, none will.
+// Finds for every record whether its chain of parents ends. After a round in which no chain has ended, none will.
 fn chains(p: &[u8], starts: &[u16], heads: &[u16], next: &[u16], ups: &mut [u16])
     requires { ⌜ Names (now p) (now starts) (now heads) (now next) × (length (now starts) ≤ length (now ups)) × Blank (now ups) ⌝ }
     ensures { λ _. ⌜ Ended (now (p .entry)) (entriesOf (now (p .entry)) (now (starts .entry))) (now (ups .exit)) ⌝ }
@@ -71,7 +71,7 @@ fn chains(p: &[u8], starts: &[u16], heads: &[u16], next: &[u16], ups: &mut [u16]
     }
 }
 
-// Marks the records under whose numbers no 0 stands.
+// Marks the records whose chains have not ended: those whose number has an item other than 0.
 fn mark_left(ups: &[u16], count: usize, marks: &mut [u8])
     requires { ⌜ (count < length (now ups)) × Blank (now marks) × (count ≤ 8 * length (now marks)) ⌝ }
     ensures { λ _. ⌜ ((i : ℕ) → i < count → bitAt (now (marks .exit)) i ≡ not (eqb (getD (now (ups .entry)) (suc i) 0) 0)) ⌝ }
@@ -95,7 +95,7 @@ pub fn mark_endless(p: &[u8], starts: &[u16], heads: &[u16], next: &[u16], marks
     mark_left(&ups, starts.len() - 1, marks);
 }
 
-// Whether record i is a device element with the number of an earlier one. Marks its number.
+// Whether record i is a device element with the element number of an earlier one. Marks its element number.
 fn repeats_number(p: &[u8], starts: &[u16], i: usize, numbers: &mut [u8]) -> bool
     requires { ⌜ (i + 1 < length (now starts)) × (65536 ≤ 8 * length (now numbers)) × Noted 65536 (elementKey (now p) (entriesOf (now p) (now starts))) i (now numbers) ⌝ }
     ensures { λ r. ⌜ (r ≡ (eqb (kindAt (entriesOf (now (p .entry)) (now (starts .entry))) i) 2 && repeats (elementKey (now (p .entry)) (entriesOf (now (p .entry)) (now (starts .entry)))) (elementKey (now (p .entry)) (entriesOf (now (p .entry)) (now (starts .entry))) i) i (length (entriesOf (now (p .entry)) (now (starts .entry)))))) × Noted 65536 (elementKey (now (p .entry)) (entriesOf (now (p .entry)) (now (starts .entry)))) (i + 1) (now (numbers .exit)) ⌝ }
@@ -108,7 +108,7 @@ fn repeats_number(p: &[u8], starts: &[u16], i: usize, numbers: &mut [u8]) -> boo
     marks::note(numbers, element.number as usize)
 }
 
-// Marks the records that repeat a number, by a list of marks under the numbers.
+// Marks the records that repeat an element number, with a list of marks for all element numbers.
 fn mark_numbers(p: &[u8], starts: &[u16], numbers: &mut [u8], marks: &mut [u8])
     requires { ⌜ (0 < length (now starts)) × (65536 ≤ 8 * length (now numbers)) × Blank (now numbers) × Blank (now marks) × (length (now starts) ≤ 8 * length (now marks)) ⌝ }
     ensures { λ _. ⌜ ((i : ℕ) → suc i < length (now (starts .entry)) → kindAt (entriesOf (now (p .entry)) (now (starts .entry))) i ≡ 2 → bitAt (now (marks .exit)) i ≡ repeats (elementKey (now (p .entry)) (entriesOf (now (p .entry)) (now (starts .entry)))) (elementKey (now (p .entry)) (entriesOf (now (p .entry)) (now (starts .entry))) i) i (length (entriesOf (now (p .entry)) (now (starts .entry))))) ⌝ }
@@ -123,7 +123,7 @@ fn mark_numbers(p: &[u8], starts: &[u16], numbers: &mut [u8], marks: &mut [u8])
     }
 }
 
-// Rule 8: marks the device elements whose number an earlier one has.
+// Rule 8: marks the device elements whose element number an earlier one has.
 pub fn mark_repeats(p: &[u8], starts: &[u16], marks: &mut [u8])
     requires { ⌜ Divided (now p) (now starts) × Blank (now marks) × (length (now starts) ≤ 8 * length (now marks)) ⌝ }
     ensures { λ _. ⌜ ((i : ℕ) → suc i < length (now (starts .entry)) → kindAt (entriesOf (now (p .entry)) (now (starts .entry))) i ≡ 2 → bitAt (now (marks .exit)) i ≡ repeats (elementKey (now (p .entry)) (entriesOf (now (p .entry)) (now (starts .entry)))) (elementKey (now (p .entry)) (entriesOf (now (p .entry)) (now (starts .entry))) i) i (length (entriesOf (now (p .entry)) (now (starts .entry))))) ⌝ }

@@ -1,4 +1,4 @@
--- What reading a pool says for checking it. Assumes nothing.
+-- What follows from reading a pool for checking it. Assumes nothing.
 use mathlib.Core.Path.{_≡_, sym, ap, subst}
 use mathlib.Core.List.{List}
 use Prim.Native.Nat.{ℕ, suc, _+_, _<_, _≤_}

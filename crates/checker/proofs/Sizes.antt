@@ -1,4 +1,4 @@
--- `check`, at a list of either length. Assumes nothing.
+-- `check`, with a list of either length. Assumes nothing.
 use Rattle.working_table.proofs.Over.{_≡_, refl, sym, subst, List, [], _∷_, ℕ, length, replicate, URA, fullShare, Name, Fn, SProp, emp, Model, Routines, Heap, Closed, factI, GhostRules, Running, givenOf, tables, tripleOf, Contract, Triple, cited, Line, Carried, enum-of, list-typed, made, R, Size, pTy, tTy, fill-lines, Rest, Over, fills-over, named, mut, erased, w16, tyInt, tyRef, sliceTy, plain, mutSliceOf, u16, mut-slice-tells, yes, lends-on, slice-cell}
 use Rattle.working_table.proofs.gather.Symbol as gather-def
 use Rattle.pool.specs.Walk.{Listed}

@@ -1,4 +1,4 @@
--- The table after checking: filled as far as checking counts, by the starts that it lists, it is the table after reading. Assumes
+-- The table after checking: filled with the records that checking counts and lists, it is the table after reading. Assumes
 -- nothing.
 use mathlib.Core.Path.{_≡_, refl, sym, ap, _∙_}
 use mathlib.Core.List.{List}

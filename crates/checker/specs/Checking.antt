@@ -1,4 +1,4 @@
--- Checking a pool: document 01, the paragraph on checking behind the rule table. Definitions only.
+-- Checking a pool: document 01, the paragraph on checking after the rule table. Definitions only.
 use Prim.Native.Nat.{ℕ}
 use mathlib.Core.Bool.{cond}
 use mathlib.Core.List.{List}
@@ -11,7 +11,7 @@ use Rattle.rules.specs.Table.{breachesOf}
 use Rattle.checker.specs.declared.Verdict.{Verdict}
 use Rattle.checker.specs.declared.Verdict.the-variants.{Checked, Empty, TooLong, NoMark, Cut, LengthOver, TooMany, TableShort}
 
--- number 0 and the full count of faults, or reading's refusal and its place
+-- the number and value of each verdict: 0 and the full count of faults, or reading's refusal and its place
 abbrev pub verdictOf : Verdict → Answer
 verdictOf (Checked records faults) = answer 0 faults
 verdictOf Empty = answer 1 0
@@ -22,7 +22,7 @@ verdictOf (LengthOver at) = answer 5 at
 verdictOf TooMany = answer 6 0
 verdictOf (TableShort needed) = answer 7 needed
 
--- the count of records beside it, 0 for a refusal
+-- the count of records in a verdict, 0 for a refusal
 abbrev pub recordsIn : Verdict → ℕ
 recordsIn (Checked records faults) = records
 recordsIn Empty = 0
@@ -33,14 +33,14 @@ recordsIn (LengthOver at) = 0
 recordsIn TooMany = 0
 recordsIn (TableShort needed) = 0
 
--- checking refuses as reading does, or gives the length of the breach list; room is the number of entries that the table has
+-- checking refuses as reading does, or answers the length of the breach list; room is the number of entries that the table has
 unfoldable pub checkOf : List ℕ → ℕ → Answer
 checkOf p room = cond (eqb (readOf p room .number) 0) (answer 0 (length (breachesOf p))) (readOf p room)
 
--- how many records reading finds, 0 where it refuses
+-- how many records reading finds, 0 if it refuses
 unfoldable pub countOf : List ℕ → ℕ → ℕ
 countOf p room = cond (eqb (readOf p room .number) 0) (readOf p room .value) 0
 
--- the fault buffer after checking: the first faults where the pool is read, else unchanged
+-- the fault buffer after checking: it starts with the first faults if the pool is read; else it is unchanged
 unfoldable pub faultsAfter : List ℕ → ℕ → List ℕ → List ℕ
 faultsAfter p room faults = cond (eqb (readOf p room .number) 0) (written faults (breachesOf p)) faults

@@ -8,8 +8,8 @@ ghost use mathlib.Core.Path.{_≡_};
 ghost use Rattle.pool.specs.Walk.{Reaches, Listed};
 ghost use Rattle.checker.specs.Checking.{verdictOf, recordsIn, checkOf, countOf, faultsAfter};
 
-// What checking answers: how many records the table now holds and the full count of faults, or why the pool cannot be read
-// and where. The refusals stand in the order of their numbers, 1 to 7.
+// What checking answers: the count of records and the full count of faults, or why the pool cannot be read and where. The refusals
+// are in the order of their numbers, 1 to 7.
 pub enum Verdict {
     Checked { records: usize, faults: usize },
     Empty,
@@ -21,8 +21,8 @@ pub enum Verdict {
     TableShort(usize),
 }
 
-// Checks a pool for a table of so many entries, by a list that reaches for the starts of every record: puts as many faults as fit
-// into the buffer. The list then begins with the records' starts and the end of the last; after a refusal it is free.
+// Checks a pool for a table of `room` entries, with a list that is long enough for the starts of every record, and writes as many faults
+// as fit into the buffer. The list then begins with the records' starts and the end of the last one; after a refusal its contents are free.
 pub fn check_by(p: &[u8], room: usize, starts: &mut [u16], faults: &mut [u16]) -> Verdict
     requires { ⌜ Reaches (now starts) (now p) ⌝ }
     ensures { λ r. ⌜ (verdictOf r ≡ checkOf (now (p .entry)) room) × (recordsIn r ≡ countOf (now (p .entry)) room) × Listed (now (p .entry)) room (now (starts .exit)) × (now (faults .exit) ≡ faultsAfter (now (p .entry)) room (now (faults .entry))) ⌝ }
@@ -47,7 +47,7 @@ pub fn check_by(p: &[u8], room: usize, starts: &mut [u16], faults: &mut [u16]) -
     }
 }
 
-// Document 01's number for what checking answers, 0 where the pool is read.
+// Document 01's number for what checking answers, 0 if the pool is read.
 pub fn number_of(verdict: Verdict) -> u32
     ensures { λ r. ⌜ r ≡ verdictOf verdict .number ⌝ }
 {
@@ -79,7 +79,7 @@ pub fn value_of(verdict: Verdict) -> usize
     }
 }
 
-// How many records the table now holds, 0 for a refusal.
+// The count of records, 0 for a refusal.
 pub fn records_of(verdict: Verdict) -> usize
     ensures { λ r. ⌜ r ≡ recordsIn verdict ⌝ }
 {

@@ -1,4 +1,4 @@
--- Checking by the division and the breaches: the pool is read, its records are the division's, and the breach list is theirs.
+-- Checking by the division and the breaches: the pool is read, its records are those of the division, and the breach list is that of these records.
 -- Assumes nothing.
 use mathlib.Core.Path.{_≡_, refl, sym, ap, _∙_}
 use mathlib.Core.Logic.{inl, inr}

@@ -1,4 +1,4 @@
--- The fields of a record are the parts that it is written of: each is read where the part before it ends. Assumes nothing.
+-- The fields of a record are the parts that it consists of: each is read where the part before it ends. Assumes nothing.
 use mathlib.Core.Path.{_≡_, refl, sym, ap, subst, _∙_}
 use mathlib.Core.List.{List, [], _∷_, _++_, append-assoc, append-nil}
 use Prim.Native.Nat.{ℕ, zero, suc, _+_, _-_, _*_, _≤_, _<_}

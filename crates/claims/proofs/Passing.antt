@@ -1,4 +1,4 @@
--- The walk over whole records, and over what stands behind them. Assumes nothing.
+-- The walk over whole records, and over what follows them. Assumes nothing.
 use mathlib.Core.Path.{_≡_, refl, ap, _∙_}
 use mathlib.Core.List.{List, [], _∷_, _++_, append-assoc, append-nil}
 use Prim.Native.Nat.{ℕ, zero, suc, _+_, _-_, _≤_, _<_}

@@ -1,4 +1,4 @@
--- Any bytes are whole records all through, or have an earliest bad record. Assumes nothing.
+-- Any bytes consist of whole records only, or have an earliest bad record. Assumes nothing.
 use mathlib.Core.Path.{_≡_, refl, sym, ap, _∙_}
 use mathlib.Core.List.{List, [], _∷_, _++_, append-assoc}
 use Prim.Native.Nat.{ℕ, zero, suc, _+_, _*_, _≤_}

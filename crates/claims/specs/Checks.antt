@@ -1,4 +1,4 @@
--- Checking, said by the division of a pool and by what a breach is: document 01, "The rule table". Definitions only.
+-- Checking, described by the division of a pool and by what a breach is: document 01, "The rule table". Definitions only.
 use Prim.Native.Nat.{ℕ, suc, _*_, _≤_, _<_}
 use mathlib.Core.Path.{_≡_}
 use mathlib.Core.Logic.{_↔_, _⊎_}
@@ -11,8 +11,8 @@ use Rattle.rules.specs.Breach.{Breach}
 use Rattle.checker.specs.Checking.{checkOf, faultsAfter}
 use Rattle.claims.specs.Reads.{listed, Sized}
 
--- a buffer after some faults: the numbers of the first ones, one fault after the other, and then what stood there before. These are
--- all faults, or so many that there is no room for a further one
+-- a buffer after faults were written: it starts with the numbers of the first faults, one fault after the other, and its other words are
+-- as before. Either all faults are written, or there is no room for one more
 pub record Holds (before : List ℕ) (faults : List Fault) (after : List ℕ) : Type 0 where
   pub count : ℕ
   pub some : count ≤ length faults
@@ -20,16 +20,16 @@ pub record Holds (before : List ℕ) (faults : List Fault) (after : List ℕ) : 
   pub most : (count ≡ length faults) ⊎ (length before < width * suc count)
   pub same : after ≡ flat (take count faults) ++ drop (width * count) before
 
--- there is one list of faults, by which checking answers and fills the buffer
+-- there is a list of faults, by which checking answers and fills the buffer
 pub record Checked (p : List ℕ) (rs : List (List ℕ)) (d : Division p rs) (room : ℕ) : Type 0 where
   pub faults : List Fault
-  -- it holds every breach and nothing else, sorted by record, rule and item and so each once
+  -- it holds every breach and nothing else, sorted by record, rule and item, and therefore each once
   pub exact : (f : Fault) → List·Memᴰ f faults ↔ Breach p (listed rs (d .whole) 0) (f .number) (f .rule) (f .item)
   pub ascending : Ascending faults
-  -- the full count is its length, and a buffer gets its first ones, as many as fit
+  -- the full count is its length, and a buffer gets the first faults, as many as fit
   pub count : checkOf p room ≡ answer 0 (length faults)
   pub buffer : (before : List ℕ) → Holds before faults (faultsAfter p room before)
 
--- of every pool of 1 to 65,535 bytes that divides into records, with a table that holds them
+-- for every pool of 1 to 65,535 bytes that divides into records, with a table that holds them
 abbrev pub Checks : Type 0
 Checks = (p : List ℕ) (rs : List (List ℕ)) (d : Division p rs) (room : ℕ) → Sized p → length rs ≤ room → Checked p rs d room

@@ -1,4 +1,4 @@
--- The displayed value and the rule table draw the same line. Definitions only.
+-- The displayed value refuses a presentation exactly if the rule table does. Definitions only.
 use Prim.Native.Nat.{ℕ, suc}
 use mathlib.Core.Path.{_≡_}
 use mathlib.Core.Logic.{_↔_}
@@ -14,7 +14,7 @@ use Rattle.pool.specs.Reading.{Entry}
 use Rattle.naming.specs.Records.{startAt}
 use Rattle.rules.specs.Breach.{Is, Breach}
 
--- the presentation that a record holds; its scale is the f32 with the bits that stand there
+-- the presentation that a record holds; its scale is the f32 with the record's bits
 abbrev pub presentationAt : List ℕ → ℕ → Presentation
 presentationAt p at =
     record { offset = presentationOf p at .offset; scale = ofBits binary32 (presentationOf p at .scale); decimals = presentationOf p at .decimals }

@@ -1,4 +1,4 @@
--- The fields of a record, by the parts that it is written of, wherever it stands in a pool. Definitions only.
+-- The fields of a record, by the parts that it consists of, wherever it is in a pool. Definitions only.
 use Prim.Native.Nat.{ℕ, _*_, _<_}
 use mathlib.Core.Path.{_≡_}
 use mathlib.Core.List.{List, _++_}
@@ -49,6 +49,6 @@ Shows p at (dvp id offset scale decimals unit a b c d e) =
     × (presentationOf p at .decimals ≡ leOf decimals)
     × (partOf p (presentationOf p at .unit) ≡ unit)
 
--- of every record, with any bytes before it and after it
+-- for every record, with any bytes before it and after it
 abbrev pub FieldsAreParts : Type 0
 FieldsAreParts = (before r after : List ℕ) (k : Kind) (w : Written k r) → Shows (before ++ (r ++ after)) (length before) w

@@ -1,5 +1,5 @@
--- Reading, said by the division of a pool alone: when a pool is read, what the table then holds, and each refusal "given
--- exactly when". Definitions only.
+-- Reading, described by the division of a pool alone: when a pool is read, what the table then holds, and when exactly each refusal
+-- is given. Definitions only.
 use Prim.Native.Nat.{ℕ, _+_, _≤_, _<_}
 use mathlib.Core.Path.{_≡_}
 use mathlib.Core.Logic.{_↔_}
@@ -16,18 +16,18 @@ use Rattle.pool.specs.Reading.{Entry, readOf, scanOf, entriesIn}
 use Rattle.working_table.specs.declared.Record.{Record}
 use Rattle.working_table.specs.Table.{recordOf, recordsAfter}
 
--- the entries of records that stand back to back from a place on: start, length, kind and ID of each
+-- the entries of records that follow each other from a place on: start, length, kind and ID of each
 abbrev pub listed : (rs : List (List ℕ)) → AllWhole rs → ℕ → List Entry
 listed [] w at = []
 listed (r ∷ rs) w at = record { start = at; size = length r; kind = kindNumber (w .0 .kind); id = leOf (take 2 (drop 3 r)) } ∷ listed rs (w .1) (at + length r)
 
--- what is wrong at the start of bytes that are no whole record, as the refusal's number and its place from there
+-- what is wrong with bytes that do not start with a whole record: the refusal's number, and its place relative to their start
 pub data Bad : List ℕ → ℕ → ℕ → Type 0 where
   unmarked : {s : List ℕ} → Unmarked s → Bad s 3 0
   cut : {s : List ℕ} → 0 < length s → CutShort s → Bad s 4 0
   over : {s : List ℕ} {place : ℕ} → OverLimit s place → Bad s 5 place
 
--- the earliest bad record: whole records, and then bytes that begin with none
+-- the earliest bad record: whole records, followed by bytes that do not start with a whole record
 pub record Earliest (p : List ℕ) (number place : ℕ) : Type 0 where
   pub before : List (List ℕ)
   pub whole : AllWhole before
@@ -37,26 +37,26 @@ pub record Earliest (p : List ℕ) (number place : ℕ) : Type 0 where
   pub bad : Bad rest number offset
   pub at : place ≡ length (joined before) + offset
 
--- the pool has a size that can be read at all: refusals 1 and 2 go by that alone
+-- the pool has a size that can be read: else refusal 1 or 2 is given, for the size alone
 abbrev pub Sized : List ℕ → Type 0
 Sized p = (1 ≤ length p) × (length p ≤ 65535)
 
--- the table after a call that reads a pool: where the pool has a size that can be read, divides into records and the table holds
--- them, it starts with their entries and later ones stay; else all of it stays
+-- the table after a call that reads a pool: if the pool has a size that can be read, divides into records and the table holds
+-- them, it starts with their entries and later entries are as before; else all of it is as before
 pub record Filled (p : List ℕ) (table left : List Record) : Type 0 where
   pub read : (rs : List (List ℕ)) (d : Division p rs) → Sized p → length rs ≤ length table → left ≡ map recordOf (listed rs (d .whole) 0) ++ drop (length rs) table
   pub stays : ((d : Divides p) → Sized p → length (d .parts) ≤ length table → ⊥) → left ≡ table
 
--- reading, by the division alone
+-- what reading answers, by the division alone
 pub record Reads (p : List ℕ) (room : ℕ) : Type 0 where
-  -- it succeeds exactly if the pool is 1 to 65,535 bytes, divides into records and the table holds them; the count is theirs
+  -- it succeeds exactly if the pool has 1 to 65,535 bytes, divides into records and the table holds them; it answers their count
   pub read : (n : ℕ) → (readOf p room ≡ answer 0 n) ↔ (Sized p × ((d : Divides p) × (length (d .parts) ≡ n) × (n ≤ room)))
-  -- and the entries are the division's, which a table then starts with
+  -- the entries are those of the division, and a table then starts with them
   pub entries : (rs : List (List ℕ)) (d : Division p rs) → entriesIn (scanOf p) ≡ listed rs (d .whole) 0
   pub table : (table : List Record) → Filled p table (recordsAfter p table)
   pub empty : (readOf p room ≡ answer 1 0) ↔ (length p ≡ 0)
   pub long : (readOf p room ≡ answer 2 0) ↔ (65535 < length p)
-  -- 3, 4 and 5 speak of the earliest bad record
+  -- 3, 4 and 5 are about the earliest bad record
   pub refused : (number place : ℕ) → (3 ≤ number) × (number ≤ 5) → (readOf p room ≡ answer number place) ↔ (Sized p × Earliest p number place)
   -- 6 is never given
   pub many : (place : ℕ) → readOf p room ≡ answer 6 place → ⊥

@@ -1,4 +1,4 @@
--- `judge`, at a list of either length. Assumes nothing.
+-- `judge`, with a list of either length. Assumes nothing.
 use Rattle.working_table.proofs.Over.{_≡_, refl, _∙_, ap, List, [], _∷_, ℕ, _≤_, length, replicate, URA, fullShare, Name, Fn, SProp, emp, Model, Routines, Heap, Closed, factI, GhostRules, Running, givenOf, tables, tripleOf, Contract, Triple, cited, Line, Carried, struct-of, list-typed, made, R, Size, pTy, tTy, fill-lines, Rest, Over, fills-over, w16, tyInt, vint, plain, u16, uint-tells, uint-lawful, yes, has, w32, u32}
 use denote.Builtin.{i32}
 use denote.Signed.{sint-vals, sint-tells, sint-lawful}

@@ -1,4 +1,4 @@
--- The table after judging a command: filled as far as judging counts, by the starts that it lists, it is as judging leaves it. Assumes
+-- The table after judging a command: if it is filled with the records that judging counts and lists, it is as the definition says. Assumes
 -- nothing.
 use mathlib.Core.Path.{_≡_, sym, ap, _∙_}
 use mathlib.Core.List.{List}

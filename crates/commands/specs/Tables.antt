@@ -6,6 +6,6 @@ use lib.Dec.{ltb}
 use Rattle.working_table.specs.declared.Record.{Record}
 use Rattle.working_table.specs.Table.{recordsAfter}
 
--- the pool is not looked at for 32, so the table stays; else it is filled as by reading
+-- for an element number over 4,095 (refusal 32) the pool is not looked at and the table is left as it was; else it is filled as by reading
 unfoldable pub judgedRecords : List ℕ → List Record → ℕ → List Record
 judgedRecords p table element = cond (ltb 4095 element) table (recordsAfter p table)

@@ -1,5 +1,5 @@
-// Commands judged over a lent slice of records: as in `device_pool`, the pool is walked and checked once, with a list of its records'
-// starts. The core (`judging`) answers by that list, and `working_table` fills the table by it.
+// Commands judged over a working table that is a lent slice of records: as in `device_pool`, the pool is read and checked once, with a
+// list of its records' starts. The core (`judging`) answers by that list, and `working_table` fills the table by it.
 use judging::Judged;
 use judging::Judgement;
 use working_table::Record;
@@ -21,7 +21,7 @@ fn judgement_of(judged: Judged) -> Judgement
     judged.judgement
 }
 
-// By a list for a pool of at most 12,276 bytes, and by one for every pool.
+// With a list for a pool of at most 12,276 bytes (`_short`), and with one for every pool (`_long`).
 fn judge_short(
     p: &[u8],
     table: &mut [Record],
@@ -55,7 +55,7 @@ fn judge_long(
     judgement_of(judged)
 }
 
-// Judges a command to the device. For an element number over 4,095 the pool is not looked at, and the table stays.
+// Judges a command to the device. For an element number over 4,095 the pool is not looked at, and the table is left as it was.
 pub fn judge(
     p: &[u8],
     table: &mut [Record],

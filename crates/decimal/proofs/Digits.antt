@@ -1,4 +1,4 @@
--- The digits of a number: those of its tenth part and its last. Assumes nothing.
+-- The digits of a number: those of the number divided by ten, and its last digit. Assumes nothing.
 use mathlib.Core.Path.{_≡_, sym, ap, _∙_}
 use mathlib.Core.List.{List, [], _∷_, _++_}
 use Prim.Native.Nat.{ℕ, zero, suc, _+_, _*_, _-_, _/_, _%_, _^_, _≤_, _<_}

@@ -1,4 +1,4 @@
--- Where to go on after bytes that were laid. Assumes nothing.
+-- The place after bytes that were written. Assumes nothing.
 use mathlib.Core.Path.{_≡_}
 use mathlib.Core.Bool.{true, false}
 use mathlib.Core.List.{List}

@@ -1,4 +1,4 @@
--- `labels`, at a list of either length. Assumes nothing.
+-- `labels`, with a list of either length. Assumes nothing.
 use Rattle.working_table.proofs.Over.{_≡_, refl, sym, subst, List, [], _∷_, ℕ, length, replicate, URA, fullShare, Name, Fn, SProp, emp, Model, Routines, Heap, Closed, factI, GhostRules, Running, givenOf, tables, tripleOf, Contract, Triple, cited, Line, Carried, struct-of, list-typed, made, R, Size, pTy, tTy, fill-lines, nothing-else, Over, fills-over}
 use Rattle.working_table.proofs.gather.Symbol as gather-def
 use Rattle.pool.specs.Walk.{Listed}

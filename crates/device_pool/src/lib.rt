@@ -1,6 +1,6 @@
-// The interface over a lent slice of records: texts and labels; reading is `working_table`'s, checking `checker`'s, judging
-// `commands`'.
-// Each function has the pool walked and checked once, with a list of its records' starts. The core answers by that list, and
+// Texts and labels, over a working table that is a lent slice of records. Reading is in `working_table`, checking in `checker` and
+// judging in `commands`.
+// Each function has the pool read and checked once, with a list of its records' starts. The core answers by that list, and
 // `working_table` fills the table by it.
 use queries::DeviceLabels;
 use queries::Place;
@@ -15,7 +15,7 @@ ghost use Rattle.working_table.specs.Table.{recordsAfter};
 ghost use Rattle.checker.specs.Checking.{countOf};
 ghost use Rattle.queries.specs.Queries.{textNumber, textSpan, textOf, Finds, Labelled};
 
-// An answer, beside how many records are listed.
+// An answer, and how many records are listed.
 pub struct Found {
     pub records: usize,
     pub place: Place,
@@ -50,7 +50,7 @@ fn shown_labels(shown: Shown) -> DeviceLabels
     shown.labels
 }
 
-// Finds a text by a list that reaches for every record. Of the faults only the count matters, so the buffer for them has room for one.
+// Finds a text, with a list that is long enough for every record. Only the count of faults matters, so their buffer has room for one.
 pub fn find_by(p: &[u8], room: usize, starts: &mut [u16], id: u32) -> Found
     requires { ⌜ Reaches (now starts) (now p) ⌝ }
     ensures { λ r. ⌜ Finds (now (p .entry)) room id (r .place) × (r .records ≡ countOf (now (p .entry)) room) × Listed (now (p .entry)) room (now (starts .exit)) ⌝ }
@@ -64,7 +64,7 @@ pub fn find_by(p: &[u8], room: usize, starts: &mut [u16], id: u32) -> Found
     }
 }
 
-// A list for a pool of at most 12,276 bytes, and one for every pool, as for a check.
+// With a list for a pool of at most 12,276 bytes (`_short`), and with one for every pool (`_long`), as for a check.
 fn find_text_short(p: &[u8], table: &mut [Record], id: u32) -> Place
     requires { ⌜ length (now p) ≤ 12276 ⌝ }
     ensures { λ r. ⌜ Finds (now (p .entry)) (length (now (table .entry))) id r × (now (table .exit) ≡ recordsAfter (now (p .entry)) (now (table .entry))) ⌝ }
@@ -84,7 +84,7 @@ fn find_text_long(p: &[u8], table: &mut [Record], id: u32) -> Place
     found_place(found)
 }
 
-// Where the text of the first record with an ID stands in the pool, also where it is empty.
+// The place in the pool of the text of the first record with an ID. An empty text has a place, too.
 pub fn find_text(p: &[u8], table: &mut [Record], id: u32) -> Place
     ensures { λ r. ⌜ Finds (now (p .entry)) (length (now (table .entry))) id r × (now (table .exit) ≡ recordsAfter (now (p .entry)) (now (table .entry))) ⌝ }
 {
@@ -103,7 +103,7 @@ pub fn text<'a>(p: &'a [u8], table: &mut [Record], id: u32, number: &mut u32) ->
     queries::text_at(p, place, number)
 }
 
-// The labels by such a list.
+// The labels, with a list that is long enough for every record.
 fn labels_by(p: &[u8], room: usize, starts: &mut [u16]) -> Shown
     requires { ⌜ Reaches (now starts) (now p) ⌝ }
     ensures { λ r. ⌜ Labelled (now (p .entry)) room (r .labels) × (r .records ≡ countOf (now (p .entry)) room) × Listed (now (p .entry)) room (now (starts .exit)) ⌝ }
@@ -117,7 +117,7 @@ fn labels_by(p: &[u8], room: usize, starts: &mut [u16]) -> Shown
     }
 }
 
-// By a list for a pool of at most 12,276 bytes, and by one for every pool.
+// With a list for a pool of at most 12,276 bytes (`_short`), and with one for every pool (`_long`).
 pub fn labels_short(p: &[u8], table: &mut [Record]) -> DeviceLabels
     requires { ⌜ length (now p) ≤ 12276 ⌝ }
     ensures { λ r. ⌜ Labelled (now (p .entry)) (length (now (table .entry))) r × (now (table .exit) ≡ recordsAfter (now (p .entry)) (now (table .entry))) ⌝ }

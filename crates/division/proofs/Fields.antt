@@ -1,4 +1,4 @@
--- One field: what its bytes can be, and what is read of them behind any others. Assumes nothing.
+-- One field: what its bytes can be, and what is read from them after any other bytes. Assumes nothing.
 use mathlib.Core.Path.{_≡_, refl, sym, ap, _∙_}
 use mathlib.Core.List.{List, [], _∷_, _++_}
 use Prim.Native.Nat.{ℕ, _+_, _*_, _≤_, _<_}

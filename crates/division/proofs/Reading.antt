@@ -1,4 +1,4 @@
--- What bytes are, read from their start as something: all of it and more, a beginning of it, or wrong. Assumes nothing.
+-- What bytes can be when read from their start as a field or a record: all of it and more, a beginning of it, or wrong. Assumes nothing.
 use mathlib.Core.Path.{_≡_, sym, ap, _∙_}
 use mathlib.Core.List.{List, _++_, append-assoc}
 use Prim.Native.Nat.{ℕ, _-_, _≤_, _<_}

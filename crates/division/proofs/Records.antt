@@ -1,4 +1,4 @@
--- A record behind any bytes: what is read of it, and what any bytes can be as one. Assumes nothing.
+-- A record after any bytes: what is read from it, and what any bytes can be when read as a record. Assumes nothing.
 use mathlib.Core.Path.{_≡_, refl, sym, ap, _∙_, subst}
 use mathlib.Core.Logic.{inl, inr}
 use mathlib.Core.List.{List, _∷_, _++_, append-assoc}

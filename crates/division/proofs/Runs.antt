@@ -1,4 +1,4 @@
--- Fields one behind the other: what their bytes can be, and what is read of them behind any others. Assumes nothing.
+-- Fields one after the other: what their bytes can be, and what is read from them after any other bytes. Assumes nothing.
 use mathlib.Core.Path.{_≡_, refl, sym, ap, _∙_, subst}
 use mathlib.Core.List.{List, [], _∷_, _++_, append-assoc}
 use Prim.Native.Nat.{ℕ, _+_, _≤_, _<_}

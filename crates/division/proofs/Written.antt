@@ -1,4 +1,4 @@
--- The whole records of a kind are the bytes that are written so. Assumes nothing.
+-- The whole records of a kind are exactly the bytes that `Written` describes. Assumes nothing.
 use mathlib.Core.Path.{_≡_, refl, sym, ap, subst, _∙_}
 use mathlib.Core.Logic.{_↔_}
 use mathlib.Core.List.{List, [], _∷_, _++_, append-nil}

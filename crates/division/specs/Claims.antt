@@ -1,4 +1,4 @@
--- What is claimed: a division is unique, and the extent of a record is decided by whole and bad records alone. Definitions only.
+-- The claims: a division is unique, and the extent of a record is decided by whole and bad records alone. Definitions only.
 use Prim.Native.Nat.{ℕ, _+_, _*_, _≤_}
 use mathlib.Core.Path.{_≡_}
 use mathlib.Core.Logic.{_↔_}
@@ -18,11 +18,11 @@ Unique = (p : List ℕ) (rs ss : List (List ℕ)) → Division p rs → Division
 abbrev pub Shortest : Type 0
 Shortest = (r : List ℕ) → Whole r → 12 ≤ length r
 
--- the bytes from a place on begin with a whole record that ends there
+-- the bytes from a place on begin with a whole record, which ends at end
 abbrev pub Begins : List ℕ → ℕ → ℕ → Type 0
 Begins p at end = (r : List ℕ) × (rest : List ℕ) × (drop at p ≡ r ++ rest) × Whole r × (end ≡ at + length r)
 
--- where a record ends, and each refusal, is given exactly when the bytes from its start on are so
+-- the record's end, and each refusal, is given exactly if the bytes from its start on are as the definitions say
 pub record Exactly (p : List ℕ) (at : ℕ) : Type 0 where
   pub ends : (end : ℕ) → (extentOf p at ≡ Ends end) ↔ Begins p at end
   pub unmarked : (extentOf p at ≡ NoMark) ↔ Unmarked (drop at p)

@@ -1,4 +1,4 @@
--- The division of a pool: a list of whole records, not an empty one, whose bytes joined are the pool. Definitions only.
+-- The division of a pool: a non-empty list of whole records whose bytes joined are the pool. Definitions only.
 use Prim.Native.Nat.{ℕ, _<_}
 use mathlib.Core.Path.{_≡_}
 use mathlib.Core.List.{List, [], _∷_}

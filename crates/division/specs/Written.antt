@@ -1,5 +1,5 @@
--- The five records a second time: the parts of each, one after the other, as the table of document 01 has them. It knows nothing of
--- the list of fields in `records` and of no reader. Definitions only.
+-- The five records a second time: the parts of each, one after the other, as in the table of document 01. This does not depend on the
+-- list of fields in `records` or on a reader. Definitions only.
 use Prim.Native.Nat.{ℕ, _*_, _≤_}
 use mathlib.Core.Path.{_≡_}
 use mathlib.Core.Logic.{_↔_}
@@ -11,11 +11,11 @@ use Rattle.records.specs.declared.Kind.{Kind}
 use Rattle.records.specs.declared.Kind.the-variants.{Dvc, Det, Dpd, Dpt, Dvp}
 use Rattle.division.specs.Whole.{Whole}
 
--- a text with its length byte in front
+-- a text preceded by its length byte
 abbrev pub sized : List ℕ → List ℕ
 sized t = length t ∷ t
 
--- the letters D, V, C and so on, then the fields in their order
+-- the bytes of a record of a kind: the three letters of its mark, then the fields in their order
 pub data Written : Kind → List ℕ → Type 0 where
   dvc : (id designator version name serial structure localization extended : List ℕ)
       → length id ≡ 2 → length designator ≤ 128 → length version ≤ 128 → length name ≡ 8 → length serial ≤ 128
@@ -35,6 +35,6 @@ pub data Written : Kind → List ℕ → Type 0 where
       → length id ≡ 2 → length offset ≡ 4 → length scale ≡ 4 → length decimals ≡ 1 → length unit ≤ 128
       → Written Dvp (joined ((0x44 ∷ 0x56 ∷ 0x50 ∷ []) ∷ id ∷ offset ∷ scale ∷ decimals ∷ sized unit ∷ []))
 
--- the whole records of a kind are the bytes that are written so
+-- the whole records of a kind are exactly these bytes
 abbrev pub WholeAreWritten : Type 0
 WholeAreWritten = (k : Kind) (r : List ℕ) → ((w : Whole r) × (w .kind ≡ k)) ↔ Written k r

@@ -1,5 +1,5 @@
-// The independent account of a pool: whole records, and what is no whole record. The functions do nothing: their contracts
-// are the claims, so that the check's report names them.
+// A description of pools that is independent of the reader: whole records, and bytes that are not. The functions do nothing: their
+// contracts are the claims, so that the check's report names them.
 ghost use mathlib.Core.List.{List};
 ghost use Prim.Native.Nat.{ℕ, _≤_};
 ghost use lib.ListN.{length};

@@ -1,4 +1,4 @@
--- Rows without a breach put nothing. Assumes nothing.
+-- Rows without a breach add no fault. Assumes nothing.
 use mathlib.Core.Path.{_≡_, refl, sym}
 use mathlib.Core.Bool.{false}
 use mathlib.Core.List.{List, [], _∷_, _++_}

@@ -1,4 +1,4 @@
--- Faults written one after the other: what is laid down and counted adds up to the whole list. Assumes nothing.
+-- Faults written one after the other: what is written and counted adds up to the whole list. Assumes nothing.
 use mathlib.Core.Path.{_≡_, refl, sym, ap, _∙_}
 use mathlib.Core.Bool.{Bool, true, false, cond}
 use mathlib.Core.List.{List, [], _∷_, _++_, append-nil, append-assoc}

@@ -1,4 +1,4 @@
--- What belongs to no one function.
+-- Laws that are not about a single function.
 pub mod Emission
 pub mod Order
 pub mod Clearing

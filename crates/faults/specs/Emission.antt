@@ -9,20 +9,20 @@ use lib.Seq.{sets}
 use Rattle.faults.specs.Faults.{Fault, numbers, width}
 use Rattle.faults.specs.Rows.{Row, inRows}
 
--- fault k is written where it fits
+-- the buffer after fault k, which is written if it fits
 unfoldable pub putAt : List ℕ → ℕ → Fault → List ℕ
 putAt b k f = cond (leb (k * width + width) (length b)) (sets b (k * width) (numbers f)) b
 
--- faults put one after the other
+-- the buffer after some faults, written one after the other from fault k on
 unfoldable pub puts : List ℕ → ℕ → List Fault → List ℕ
 puts b k [] = b
 puts b k (f ∷ fs) = puts (putAt b k f) (k + 1) fs
 
--- from a buffer and a count to a buffer and a count: these faults were added
+-- the faults fs were added: to the buffer b₀ and the count k₀, which became b and k
 pub record Emits (b₀ : List ℕ) (k₀ : ℕ) (fs : List Fault) (b : List ℕ) (k : ℕ) : Type 0 where
   pub laid : b ≡ puts b₀ k₀ fs
   pub counted : k ≡ k₀ + length fs
 
--- the faults of these rows of record n were added
+-- the faults of these rows of record n were added, likewise
 pub record Puts (n : ℕ) (rows : List Row) (b₀ : List ℕ) (k₀ : ℕ) (b : List ℕ) (k : ℕ) : Type 0 where
   pub emits : Emits b₀ k₀ (inRows n rows) b k

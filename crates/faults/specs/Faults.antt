@@ -16,7 +16,7 @@ pub record Fault : Type 0 where
 abbrev pub fault : ℕ → ℕ → ℕ → Fault
 fault n u k = record { number = n; rule = u; item = k }
 
--- the numbers that a fault is written as, and how many they are
+-- how many numbers a fault is written as
 abbrev pub width : ℕ
 width = 3
 
@@ -29,7 +29,7 @@ abbrev pub flat : List Fault → List ℕ
 flat [] = []
 flat (f ∷ fs) = numbers f ++ flat fs
 
--- a buffer after a check: the first faults, as many as fit, from its start; later numbers as they were
+-- a buffer after a check: it starts with the first faults, as many as fit; later numbers are as they were
 unfoldable pub written : List ℕ → List Fault → List ℕ
 written buffer fs = sets buffer 0 (flat (take (length buffer / width) fs))
 
@@ -39,7 +39,7 @@ Before f g =
     (f .number < g .number)
     ⊎ ((f .number ≡ g .number) × ((f .rule < g .rule) ⊎ ((f .rule ≡ g .rule) × (f .item < g .item))))
 
--- each fault is before each later one: the list is sorted, and holds none twice
+-- each fault is before each later one: the list is sorted, and no fault occurs twice
 abbrev pub Ascending : List Fault → Type 0
 Ascending [] = Unit {0}
 Ascending (f ∷ fs) = ((g : Fault) → List·Memᴰ g fs → Before f g) × Ascending fs

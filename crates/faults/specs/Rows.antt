@@ -13,7 +13,7 @@ pub record Row : Type 0 where
   pub size : ℕ
   pub breach : ℕ → Bool
 
--- a row of a rule with so many items from one on, and a test for each
+-- a row of a rule with n items from item k on, and a test for each
 abbrev pub many : ℕ → ℕ → ℕ → (ℕ → Bool) → Row
 many u k n t = record { rule = u; first = k; size = n; breach = t }
 
@@ -21,7 +21,7 @@ many u k n t = record { rule = u; first = k; size = n; breach = t }
 abbrev pub one : ℕ → ℕ → Bool → Row
 one u k b = many u k 1 (λ m. b)
 
--- a fault, if its test holds
+-- a list with the fault, if its test holds
 abbrev pub ifSo : Bool → Fault → List Fault
 ifSo true f = f ∷ []
 ifSo false f = []
@@ -42,16 +42,16 @@ unfoldable pub inRecords : (ℕ → List Row) → ℕ → List Fault
 inRecords rows zero = []
 inRecords rows (suc n) = inRecords rows n ++ inRows n (rows n)
 
--- every item of a row comes before every item of another
+-- every fault of a row comes before every fault of another
 abbrev pub precedes : Row → Row → Bool
 precedes w v = ltb (w .rule) (v .rule) || (eqb (w .rule) (v .rule) && leb (w .first + w .size) (v .first))
 
--- a row stands before all of some others
+-- a row precedes all rows of a list
 abbrev pub precedesAll : Row → List Row → Bool
 precedesAll w [] = true
 precedesAll w (v ∷ vs) = precedes w v && precedesAll w vs
 
--- the rows stand in the order of their faults
+-- the rows are in the order of their faults
 abbrev pub inOrder : List Row → Bool
 inOrder [] = true
 inOrder (w ∷ ws) = precedesAll w ws && inOrder ws
@@ -63,23 +63,23 @@ pub record Alike (w v : Row) : Type 0 where
   pub size : w .size ≡ v .size
   pub breach : (m : ℕ) → m < w .size → w .breach m ≡ v .breach m
 
--- two tables that say the same, row by row
+-- two tables with the same tests, row by row
 abbrev pub AllAlike : List Row → List Row → Type 0
 AllAlike [] [] = Unit {0}
 AllAlike [] (v ∷ vs) = ⊥
 AllAlike (w ∷ ws) [] = ⊥
 AllAlike (w ∷ ws) (v ∷ vs) = Alike w v × AllAlike ws vs
 
--- rows without a breach
+-- a row without a breach
 abbrev pub Clear : Row → Type 0
 Clear w = (m : ℕ) → m < w .size → w .breach m ≡ false
 
--- a table of which no test holds
+-- rows none of which has a breach
 abbrev pub AllClear : List Row → Type 0
 AllClear [] = Unit {0}
 AllClear (w ∷ ws) = Clear w × AllClear ws
 
--- a fault by its row
+-- a fault that is found by one of the rows of the first n records
 pub record Found (rows : ℕ → List Row) (n : ℕ) (f : Fault) : Type 0 where
   pub row : Row
   pub offset : ℕ

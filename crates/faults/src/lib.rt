@@ -1,4 +1,4 @@
-// A fault buffer of numbers: each fault is its record, rule and item. A fault is written where it fits and always counted.
+// A fault buffer of numbers: each fault is its record, rule and item. A fault is written if it fits, and always counted.
 ghost use Prim.Native.Nat.{_+_, _≤_, _<_, _^_};
 ghost use Rattle.faults.specs.Faults.{fault};
 ghost use Rattle.faults.specs.Rows.{one, ifSo};
@@ -6,10 +6,10 @@ ghost use Rattle.faults.specs.Emission.{Emits, Puts};
 ghost use mathlib.Core.Bool.{true};
 ghost use mathlib.Core.List.{[], _∷_};
 
-// The numbers of a fault in a buffer.
+// How many numbers a fault takes in a buffer.
 pub const WIDTH: usize = 3;
 
-// Counts a fault, and writes it where it fits.
+// Counts a fault, and writes it if it fits.
 fn put(buffer: &mut [u16], count: usize, number: u16, rule: u16, item: u16) -> usize
     requires { ⌜ count < 2 ^ 48 ⌝ }
     ensures { λ r. ⌜ Emits (now (buffer .entry)) count (ifSo true (fault number rule item)) (now (buffer .exit)) r × (r ≤ count + 1) ⌝ }
@@ -23,7 +23,7 @@ fn put(buffer: &mut [u16], count: usize, number: u16, rule: u16, item: u16) -> u
     count + 1
 }
 
-// The same of a breach that has been looked for.
+// The same if there is a breach; else nothing changes.
 pub fn put_if(
     breach: bool,
     buffer: &mut [u16],

@@ -1,4 +1,4 @@
--- What tells that a record has no fault. Assumes nothing.
+-- What shows that a record has no fault. Assumes nothing.
 use mathlib.Core.Path.{_≡_, refl, sym, ap, _∙_}
 use mathlib.Core.Bool.{Bool, true, false, not, _&&_, _||_, true≢false, and-false}
 use mathlib.Core.Logic.{⊎-elim}

@@ -1,2 +1,2 @@
--- For the laws of `field_rules`, and for those who cite them.
+-- What the laws of `field_rules` cite, and the crates that use them.
 pub mod Clean

@@ -1,4 +1,4 @@
-// The rules that look at one record alone: IDs, texts and ranges.
+// The rules about one record alone: IDs, texts and ranges.
 pub mod whole;
 
 use records::Device;
@@ -22,7 +22,7 @@ fn is_unsound(p: &[u8], s: Span) -> bool
     !text::is_sound_in(p, s.from, s.to)
 }
 
-// Rule 1: a device has the ID 0, and nothing else has 0 or 65535.
+// Rule 1: a device has the ID 0, and no other record has 0 or 65535.
 pub fn is_bad_id(kind: u16, id: u16) -> bool
     ensures { λ r. ⌜ r ≡ badOwn kind id ⌝ }
 {
@@ -41,7 +41,7 @@ pub fn put_own(bad: bool, again: bool, number: u16, faults: &mut [u16], count: u
     faults::put_if(again, faults, n, number, 2, 1)
 }
 
-// A label byte of a device, of the fourteen.
+// Whether one of a device's fourteen label bytes breaks rule 5.
 fn is_bad_label(p: &[u8], at: usize, j: usize) -> bool
     requires { ⌜ at + j < 2 ^ 32 ⌝ }
     ensures { λ r. ⌜ r ≡ badLabel (now (p .entry)) at j ⌝ }
@@ -53,7 +53,7 @@ fn is_bad_label(p: &[u8], at: usize, j: usize) -> bool
     byte != 255
 }
 
-// Rule 5 of a device: structure label and localization label stand behind each other.
+// Rule 5 of a device: the localization label follows the structure label.
 fn put_labels(p: &[u8], at: usize, number: u16, faults: &mut [u16], count: usize) -> usize
     requires { ⌜ (at < 2 ^ 20) × (count < 2 ^ 41) ⌝ }
     ensures { λ r. ⌜ Puts number (many 5 1 14 (badLabel (now (p .entry)) at) ∷ []) (now (faults .entry)) count (now (faults .exit)) r × (r ≤ count + 14) ⌝ }
@@ -99,7 +99,7 @@ fn is_bad_number(x: u16) -> bool
     4095 < x
 }
 
-// Whether rule 5 finds nothing in a device element.
+// Whether a device element keeps rule 5.
 pub fn is_fit_element(e: DeviceElement) -> bool
     ensures { λ r. ⌜ r ≡ not (not (leb 1 (e .«element_type») && leb (e .«element_type») 7) || ltb 4095 (e .number)) ⌝ }
 {
@@ -129,7 +129,7 @@ fn is_bad_properties(x: u8) -> bool
     7 < x
 }
 
-// Bits 1 and 2 of the properties: settable and control source.
+// Whether bits 1 and 2 of the properties, settable and control source, are both set.
 fn is_bad_source(properties: u8) -> bool
     ensures { λ r. ⌜ r ≡ badSource properties ⌝ }
 {
@@ -143,7 +143,7 @@ fn is_bad_triggers(x: u8) -> bool
     31 < x
 }
 
-// Whether rule 5 finds nothing in process data.
+// Whether process data keeps rule 5.
 pub fn is_fit_data(d: ProcessData) -> bool
     ensures { λ r. ⌜ r ≡ not (ltb 7 (d .properties) || badSource (d .properties) || ltb 31 (d .triggers)) ⌝ }
 {
@@ -169,7 +169,7 @@ pub fn put_property(p: &[u8], d: Property, number: u16, faults: &mut [u16], coun
     faults::put_if(is_unsound(p, d.designator), faults, count, number, 4, 1)
 }
 
-// The scale is judged on its bits: no NaN is within the range.
+// The scale is judged by its bits: no NaN is within the range.
 fn is_bad_scale(bits: u32) -> bool
     ensures { λ r. ⌜ r ≡ badScale bits ⌝ }
 {
@@ -182,7 +182,7 @@ fn is_bad_decimals(x: u8) -> bool
     7 < x
 }
 
-// Whether rule 5 finds nothing in a value presentation.
+// Whether a value presentation keeps rule 5.
 pub fn is_fit_value(v: ValuePresentation) -> bool
     ensures { λ r. ⌜ r ≡ not (badScale (v .scale) || ltb 7 (v .decimals)) ⌝ }
 {
@@ -205,7 +205,7 @@ pub fn put_value(
     faults::put_if(is_bad_decimals(v.decimals), faults, n5, number, 5, 2)
 }
 
-// A presentation: 65535 is none.
+// Whether the ID of a presentation names no record. 65535 means that there is no presentation.
 fn is_missing(id: u16, named: u16) -> bool
     ensures { λ r. ⌜ r ≡ (not (eqb id 65535) && eqb named 0) ⌝ }
 {
@@ -218,7 +218,7 @@ fn is_wrong(right: bool, named: u16) -> bool
     (named != 0) & !right
 }
 
-// Rules 6 and 7 of a presentation's ID, by the record that it names and that one's kind.
+// Rules 6 and 7 of a presentation's ID, by the number of the record that it names and that record's kind.
 pub fn put_presentation(
     id: u16,
     named: u16,

@@ -1,4 +1,4 @@
-// The rules that look at the whole pool: whether it has a device, and a device element of type 1.
+// The rules about the pool as a whole: whether it has a device, and a device element of type 1.
 ghost use mathlib.Core.Path.{_≡_};
 ghost use mathlib.Core.Bool.{cond};
 ghost use Prim.Native.Nat.{_≤_};

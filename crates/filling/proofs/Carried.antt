@@ -1,5 +1,5 @@
--- Types whose values go by themselves: what they own is had for nothing. A covered function's answer is of one, and so is a function's
--- own over the table.
+-- Types whose values own nothing, so that ownership of a value always holds. A covered function's answer has such a type, and so has the
+-- answer of a function over the table.
 --     Carried                      a type's row, its type in MIR, and these laws
 --     struct-of, enum-of, uint-of  a declared struct, a declared enum and a number are such types
 -- Assumes `Given`.

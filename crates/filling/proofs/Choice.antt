@@ -1,5 +1,5 @@
--- A function that tests a slice's length and hands its parameters on to one of two functions, which have its contract but that the one
--- for a short slice may suppose what was tested.
+-- A function that tests a slice's length and calls one of two functions with its parameters. These have its contract, except that the one
+-- for a short slice may assume what was tested.
 --     Asked            a contract, by what is asked
 --     picks            such a function meets it
 -- Assumes `Given`.

@@ -1,4 +1,4 @@
--- A whole function by what its code asks: its locals are allocated, the arguments stored, and the code runs.
+-- A whole function by what its code requires: its locals are allocated, the arguments stored, and the code runs.
 --     goes-straight    a function of straight-line code, from its script at every choice of the locals' places
 --     goes-either      a function that tests a slice's length and goes on by one of two such codes
 -- Assumes `Given`, and that the table of calls is monotone under a frame.

@@ -1,5 +1,5 @@
 -- One law for every function over the working table that fills it from a covered function's list, whatever its other parameters are
--- and wherever the table stands among them.
+-- and whichever parameter the table is.
 --     lines            the code: the list, its length and the table's, the covered function, the count in its answer, the filling, the answer's own part
 --     fills-table      a function of that code meets a contract. The covered function has the table's length and the list where the function has the table
 -- Assumes `Given`.

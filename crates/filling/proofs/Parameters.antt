@@ -1,4 +1,4 @@
--- The parameters of a function over the table, wherever the table stands among them: what stands before it and behind it, what they
+-- The parameters of a function over the table, whichever of them the table is: those before it and those after it, what they
 -- own, what is said of them at exit, and the tokens of their lifetimes, each taken apart at the table and joined again.
 --     Holds, held      a value of each type as what a local holds
 -- Assumes `Given`.

@@ -1,5 +1,5 @@
--- Straight-line code over whole locals, run by a law and not by a walk: code is a list of lines, and `straight` says what they ask of
--- whoever proves the function, which is nothing of memory but for the calls' own.
+-- Straight-line code over whole locals, executed by a law and not by a walk: code is a list of lines, and `straight` says what they need in
+-- the function's proof, which is nothing about memory except for the calls themselves.
 --     Line, code       a line of code, or a step of ghost state that has no code; the MIR of a list of them, which ends in a return
 --     Fine             the facts on locals and types, each of which computes
 --     Script, meaning  what is left to show, as data and as an assertion: the calls, one after the other

@@ -1,4 +1,4 @@
--- What looking among the records of a pool finds. Assumes nothing.
+-- What a search among the records of a pool finds. Assumes nothing.
 use mathlib.Core.Path.{_≡_, refl, sym, ap, _∙_}
 use mathlib.Core.List.{List}
 use Prim.Native.Nat.{ℕ, zero, suc, _-_, _≤_, _<_}

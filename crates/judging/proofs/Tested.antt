@@ -1,4 +1,4 @@
--- The tests of judging, each as a word of the causes. Assumes nothing.
+-- The tests of judging, each equivalent to a part of a cause. Assumes nothing.
 use mathlib.Core.Path.{_≡_, refl, sym, ap, _∙_}
 use mathlib.Core.Bool.{Bool, true, false, _&&_, _||_}
 use mathlib.Core.Logic.{_⊎_, inl, inr, ⊎-elim}

@@ -1,4 +1,4 @@
--- What a judgement by the records of a pool says of the pool. Assumes nothing.
+-- What a judgement by the records of a pool means for the pool. Assumes nothing.
 use mathlib.Core.Path.{_≡_, refl, sym, ap, _∙_}
 use mathlib.Core.Bool.{cond}
 use mathlib.Core.List.{List}

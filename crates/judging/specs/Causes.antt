@@ -1,5 +1,5 @@
 -- What can be wrong with a command to the device, in the words of document 01, the last paragraph of "Process data messages": a cause
--- for each error byte, and which of them counts. Nothing here says how a cause is found. Records are counted from 0. Definitions only.
+-- for each error byte, and which error byte is given. Nothing here says how a cause is found. Records are counted from 0. Definitions only.
 use Prim.Native.Nat.{ℕ, _<_, _≤_}
 use mathlib.Core.Path.{_≡_}
 use mathlib.Core.Logic.{_↔_}
@@ -26,12 +26,12 @@ pub data Carries : ℕ → Type 0 where
   eight : Carries 8
   ten : Carries 0xA
 
--- those that set a value
+-- the commands that set a value
 pub data Sets : ℕ → Type 0 where
   three : Sets 3
   ten : Sets 0xA
 
--- those that start a measurement, each with the trigger bit that it needs
+-- the commands that start a measurement, each with the trigger bit that it needs
 pub data Needs : ℕ → ℕ → Type 0 where
   four : Needs 4 0
   five : Needs 5 1
@@ -39,7 +39,7 @@ pub data Needs : ℕ → ℕ → Type 0 where
   seven : Needs 7 2
   eight : Needs 8 3
 
--- those whose value is an interval, of time or of distance
+-- the commands whose value is an interval, of time or of distance
 pub data Interval : ℕ → Type 0 where
   four : Interval 4
   five : Interval 5
@@ -48,7 +48,7 @@ pub data Interval : ℕ → Type 0 where
 pub data Negative : ℤ → Type 0 where
   below : {n : ℕ} → Negative (negsuc n)
 
--- ---- what the command is for
+-- ---- the device element and the object of a command
 
 module _ (p : List ℕ) (es : List Entry) where
   -- record i is a device element with this element number
@@ -90,48 +90,48 @@ module _ (p : List ℕ) (es : List Entry) where
     no-value : (Carries command → ⊥) → Cause command element ddi value 0x01
     -- no device element has the element number
     no-element : ((i : ℕ) → Numbered element i → ⊥) → Cause command element ddi value 0x02
-    -- the list of the one that has it names no process data and no property of the DDI
+    -- the list of the device element with the number names no process data and no property of the DDI
     no-object : {i : ℕ} → Numbered element i → ((j : ℕ) → InList i ddi j → ⊥) → Cause command element ddi value 0x04
-    -- 3 or A, where the object is not settable
+    -- command 3 or A, and the object is not settable
     not-settable : {j : ℕ} → Sets command → Object element ddi j → (Settable j → ⊥) → Cause command element ddi value 0x10
-    -- 4, 5, 6, 7 or 8, where it lacks the trigger
+    -- command 4, 5, 6, 7 or 8, and the object lacks the trigger
     no-trigger : {j b : ℕ} → Needs command b → Object element ddi j → (Triggered j b → ⊥) → Cause command element ddi value 0x08
-    -- 4 or 5 with a negative value
+    -- command 4 or 5 with a negative value
     negative-interval : Interval command → Negative value → Cause command element ddi value 0x20
 
 -- ---- the error byte
 
--- the first in a list that applies, 0 where none does
+-- the first in a list that applies, 0 if none does
 pub data FirstMatch (Applies : ℕ → Type 0) : List ℕ → ℕ → Type 0 where
   none : FirstMatch Applies [] 0
   here : {e : ℕ} {later : List ℕ} → Applies e → FirstMatch Applies (e ∷ later) e
   after : {e f : ℕ} {later : List ℕ} → (Applies e → ⊥) → FirstMatch Applies later f → FirstMatch Applies (e ∷ later) f
 
--- the error bytes in the order in which they count, which is not that of the numbers
+-- the error bytes in the order in which they are judged, which is not that of the numbers
 abbrev pub errors : List ℕ
 errors = 0x01 ∷ 0x02 ∷ 0x04 ∷ 0x10 ∷ 0x08 ∷ 0x20 ∷ []
 
--- a command has this error byte: the first whose cause applies, 0 where none does
+-- a command has this error byte: the first whose cause applies, 0 if none does
 abbrev pub ErrorByte : List ℕ → List Entry → ℕ → ℕ → ℕ → ℤ → ℕ → Type 0
 ErrorByte p es command element ddi value = FirstMatch (Cause p es command element ddi value) errors
 
 -- ---- the claim
 
--- what judging a command answers, number and error byte
+-- what judging a command answers: number and error byte
 pub record JudgedByCause (p : List ℕ) (room command element ddi : ℕ) (value : ℤ) : Type 0 where
   -- 32 for an element number over 4095, whatever the pool is, and no error byte
   pub over : 4095 < element → (judgeNumber p room element ≡ 32) × (judgeError p room command element ddi value ≡ 0)
   -- for another element number, a pool that is not accepted is refused as by a text query
   pub refused : element ≤ 4095 → (acceptance p room ≡ 0 → ⊥)
       → (judgeNumber p room element ≡ acceptance p room) × (judgeError p room command element ddi value ≡ 0)
-  -- over an accepted pool the number is 0, and the error byte is the one above and no other
+  -- for an accepted pool the number is 0, and the error byte is the one defined above and no other
   pub judged : element ≤ 4095 → acceptance p room ≡ 0
       → (judgeNumber p room element ≡ 0)
       × ((e : ℕ) → (judgeError p room command element ddi value ≡ e) ↔ ErrorByte p (entriesIn (scanOf p)) command element ddi value e)
-  -- the same of `errorOf`, by which the error byte is defined
+  -- the same for `errorOf`, by which the error byte is defined
   pub defined : element ≤ 4095 → acceptance p room ≡ 0
       → (e : ℕ) → (errorOf p (entriesIn (scanOf p)) command element ddi value ≡ e) ↔ ErrorByte p (entriesIn (scanOf p)) command element ddi value e
 
--- of every pool, table and command
+-- for every pool, table and command
 abbrev pub ErrorIsFirstCause : Type 0
 ErrorIsFirstCause = (p : List ℕ) (room command element ddi : ℕ) (value : ℤ) → JudgedByCause p room command element ddi value

@@ -1,4 +1,4 @@
--- Over an accepted pool a command means one thing: no element number is used twice, and no list has a DDI twice.
+-- In an accepted pool a command is unambiguous: no element number is used twice, and no list has a DDI twice.
 -- Definitions only.
 use Prim.Native.Nat.{ℕ, suc, _<_}
 use mathlib.Core.Path.{_≡_}
@@ -25,6 +25,6 @@ pub record NamesOne (p : List ℕ) (es : List Entry) : Type 0 where
   pub element : (i j : ℕ) → Element es i → Element es j → elementOf p (startAt es i) .number ≡ elementOf p (startAt es j) .number → i ≡ j
   pub entry : (i m n ddi : ℕ) → Element es i → Lists p es i m ddi → Lists p es i n ddi → m ≡ n
 
--- so it is in every pool that is accepted
+-- this holds in every accepted pool
 abbrev pub AcceptedNamesOne : Type 0
 AcceptedNamesOne = (p : List ℕ) (room : ℕ) → acceptance p room ≡ 0 → NamesOne p (entriesIn (scanOf p))

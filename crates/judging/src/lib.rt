@@ -1,4 +1,4 @@
-// Judging a command to the device: one error byte over an accepted pool.
+// Judging a command to the device: one error byte, by an accepted pool.
 use pool::Outcome;
 ghost use mathlib.Core.Path.{_≡_};
 ghost use mathlib.Core.Bool.{true, cond};
@@ -20,7 +20,7 @@ pub struct Judgement {
     pub error: u8,
 }
 
-// A judgement, beside how many records there are for the table.
+// A judgement, and how many entries of the table have to be filled.
 pub struct Judged {
     pub records: usize,
     pub judgement: Judgement,
@@ -33,7 +33,7 @@ fn judgement_of(records: usize, number: u32, error: u8) -> Judged
     Judged { records, judgement }
 }
 
-// What process data allows, by its bits.
+// The property bits and trigger bits of an object.
 struct Bits {
     properties: u8,
     triggers: u8,
@@ -66,8 +66,8 @@ fn find_element(p: &[u8], starts: &[u16], element: u16) -> u16
     0
 }
 
-// The number of the record that the first entry with a DDI names, in the list of the device element that starts at a place; 0 for
-// none.
+// The number, from 1, of the process data or property with a DDI that the first such entry names, in the list of the device element that
+// starts at a place; 0 for none.
 fn find_object(p: &[u8], starts: &[u16], heads: &[u16], next: &[u16], at: u16, ddi: u16) -> u16
     requires { ⌜ Names (now p) (now starts) (now heads) (now next) ⌝ }
     ensures { λ r. ⌜ r ≡ objectFor (now (p .entry)) (entriesOf (now (p .entry)) (now (starts .entry))) at ddi ⌝ }
@@ -85,7 +85,7 @@ fn find_object(p: &[u8], starts: &[u16], heads: &[u16], next: &[u16], at: u16, d
     0
 }
 
-// The bits of an object: a property has none.
+// The bits of an object, which is process data or a property. A property has none.
 fn bits_of(p: &[u8], kind: u16, at: u16) -> Bits
     ensures { λ r. ⌜ (r .properties ≡ propertiesIn (now (p .entry)) kind at) × (r .triggers ≡ triggersIn (now (p .entry)) kind at) ⌝ }
 {
@@ -102,7 +102,7 @@ fn bits_of(p: &[u8], kind: u16, at: u16) -> Bits
     }
 }
 
-// Whether a command sets a value that may not be set.
+// Whether a command sets a value and the object is not settable.
 fn lacks_setting(properties: u8, command: u32) -> bool
     ensures { λ r. ⌜ r ≡ lacksSetting properties command ⌝ }
 {
@@ -119,14 +119,14 @@ fn lacks_trigger(triggers: u8, command: u32) -> bool
                 | ((command == 8) & (triggers / 8 % 2 == 0))))
 }
 
-// Whether an interval is negative.
+// Whether a command carries an interval that is negative.
 fn lacks_interval(value: i32, command: u32) -> bool
     ensures { λ r. ⌜ r ≡ lacksInterval value command ⌝ }
 {
     ((command == 4) | (command == 5)) & (value < 0)
 }
 
-// The error byte from the object on.
+// The error byte of a command whose object was found.
 fn object_error(properties: u8, triggers: u8, command: u32, value: i32) -> u8
     ensures { λ r. ⌜ r ≡ objectError properties triggers command value ⌝ }
 {
@@ -142,7 +142,7 @@ fn object_error(properties: u8, triggers: u8, command: u32, value: i32) -> u8
     0
 }
 
-// The error byte over the records of a pool.
+// The error byte of a command, by the records of a pool.
 fn error_in(
     p: &[u8],
     starts: &[u16],
@@ -172,8 +172,8 @@ fn error_in(
     object_error(bits.properties, bits.triggers, command, value)
 }
 
-// Judges by the records of a pool, whose IDs have been listed: a pool with a fault is not judged. Of the faults only the count
-// matters, so the buffer for them has room for one.
+// Judges by the records of a pool, whose IDs have been listed. A pool with a fault is refused with 24. Only the count of faults matters,
+// so their buffer has room for one.
 fn judge_named(
     p: &[u8],
     starts: &[u16],
@@ -203,7 +203,8 @@ fn judge_named(
     }
 }
 
-// By lists for a pool of up to 1,023 records, and for every pool: those of a check, so that the IDs are listed once.
+// With lists for a pool of up to 1,023 records (`_short`), and with lists for every pool (`_long`). The check uses the same lists, so
+// that the IDs are listed once.
 fn judge_short(
     p: &[u8],
     starts: &[u16],
@@ -284,8 +285,8 @@ fn judge_among(
     judge_long(p, starts, command, element, ddi, value)
 }
 
-// Judges a command for a table of so many entries, by a list that reaches for every record of the pool. For an element number over 4,095
-// the pool is not looked at, and there is nothing for the table.
+// Judges a command for a table of `room` entries, with a list that is long enough for every record of the pool. For an element number
+// over 4,095 the pool is not looked at, and no entry of the table has to be filled.
 pub fn judge_by(
     p: &[u8],
     room: usize,
@@ -310,8 +311,8 @@ pub fn judge_by(
     judgement_of(0, pool::number_of(outcome), 0)
 }
 
-// An accepted pool has one element and one object for a command. The function does nothing: its contract is the claim, so that
-// the report names it.
+// In an accepted pool an element number belongs to one device element, and a DDI to one entry of its list. The function does nothing:
+// its contract is the claim, so that the report names it.
 pub fn accepted_names_one()
     ensures { λ _. ⌜ AcceptedNamesOne ⌝ }
 {}

@@ -1,2 +1,2 @@
--- What belongs to no one function.
+-- Laws that are not about a single function.
 pub mod Reading

@@ -1,4 +1,4 @@
--- What reads answer, and how far reading has come. Assumes nothing.
+-- The answers of reads, and how far reading has come. Assumes nothing.
 use mathlib.Core.Path.{_≡_, refl, sym, subst}
 use mathlib.Core.Bool.{Bool, true, false, cond, true≢false}
 use mathlib.Core.List.{[], _∷_}

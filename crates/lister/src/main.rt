@@ -1,5 +1,5 @@
-// Lists a pool from standard input: its records, and that it is accepted or its first faults; or the one number and place at
-// which it is refused. What is written is the memory that `pool_listing::list` fills.
+// Lists a pool from standard input: its records, and that it is accepted or its first faults; or, if it is refused, the number and the
+// place of the refusal. It writes the memory that `pool_listing::list` has filled.
 use libc::STDERR_FILENO;
 use libc::STDIN_FILENO;
 use libc::STDOUT_FILENO;
@@ -8,15 +8,15 @@ ghost use mathlib.Core.Path.{_≡_};
 ghost use lib.ListN.{length};
 ghost use Rattle.lister.specs.Reading.{inputAfter, Further, Over};
 
-// How far reading has come: so many bytes and perhaps more, all of so many, or a read that failed.
+// How far reading has come: this many bytes and perhaps more to come, all bytes, namely this many, or a read that failed.
 enum Input {
     More(usize),
     Ended(usize),
     Failed,
 }
 
-// What a read's answer means when n bytes have come and there is room for some more. A failed read must not pass for the input's end:
-// what came so far may divide into records and yet not be the whole pool.
+// What a read's answer means after n bytes, if there is room for room more. A failed read must not be taken for the end of the input:
+// the bytes so far may divide into records and yet not be the whole pool.
 fn read_on(n: usize, got: isize, room: usize) -> Input
     requires { ⌜ n + room < 2 ^ 64 ⌝ }
     ensures { λ r. ⌜ r ≡ inputAfter n got room ⌝ }
@@ -58,7 +58,7 @@ fn read_input(input: &mut [u8]) -> Input
     Input::Ended(n)
 }
 
-// Writes out a listing. A write that fails is said on standard error.
+// Writes a listing to standard output. A write that fails is reported on standard error.
 fn write_out(listing: &[u8]) {
     if io::write_all(STDOUT_FILENO, listing) {
         return;
@@ -81,7 +81,7 @@ fn run(input: &mut [u8], out: &mut [u8])
     write_out(&out[..end]);
 }
 
-// One byte more than a pool may have shows that an input is too long.
+// The input buffer has one byte more than a pool may have, so that too long an input is noticed.
 fn main() {
     let mut input = [0u8; 65536];
     let mut out = [0u8; 90125];

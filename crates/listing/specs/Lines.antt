@@ -10,11 +10,11 @@ use Rattle.decimal.specs.Digits.{digits}
 abbrev pub space : List ℕ
 space = 0x20 ∷ []
 
--- what ends a line
+-- the end of a line
 abbrev pub newline : List ℕ
 newline = 0x0A ∷ []
 
--- "records ": this word and those below have the spaces that part them from their numbers
+-- "records ": this word and those below include the spaces that separate them from their numbers
 abbrev pub recordsWord : List ℕ
 recordsWord = 0x72 ∷ 0x65 ∷ 0x63 ∷ 0x6F ∷ 0x72 ∷ 0x64 ∷ 0x73 ∷ 0x20 ∷ []
 
@@ -34,27 +34,27 @@ faultWord = 0x66 ∷ 0x61 ∷ 0x75 ∷ 0x6C ∷ 0x74 ∷ 0x20 ∷ []
 abbrev pub refusedWord : List ℕ
 refusedWord = 0x72 ∷ 0x65 ∷ 0x66 ∷ 0x75 ∷ 0x73 ∷ 0x65 ∷ 0x64 ∷ 0x20 ∷ []
 
--- the mark of a kind by the kind's number, which counts from 1; nothing for a number that no kind has
+-- the mark of a kind by the kind's number, which counts from 1; no letters for a number that no kind has
 unfoldable pub letters : ℕ → List ℕ
 unfolding mark
 letters kind = getD ([] ∷ mark Dvc ∷ mark Det ∷ mark Dpd ∷ mark Dpt ∷ mark Dvp ∷ []) kind []
 
--- the count of records
+-- the line for the count of records
 unfoldable pub countLine : ℕ → List ℕ
 countLine count = recordsWord ++ digits count ++ newline
 
--- a record: mark, ID, start and length
+-- the line for a record: mark, ID, start and length
 unfoldable pub recordLine : ℕ → ℕ → ℕ → ℕ → List ℕ
 recordLine kind id start size = letters kind ++ space ++ digits id ++ atWord ++ digits start ++ lengthWord ++ digits size ++ newline
 
--- a pool without faults: "accepted"
+-- the line for a pool without faults: "accepted"
 unfoldable pub acceptedLine : List ℕ
 acceptedLine = 0x61 ∷ 0x63 ∷ 0x63 ∷ 0x65 ∷ 0x70 ∷ 0x74 ∷ 0x65 ∷ 0x64 ∷ newline
 
--- a fault: the record's number, the rule and the item
+-- the line for a fault: the record's number, the rule and the item
 unfoldable pub faultLine : ℕ → ℕ → ℕ → List ℕ
 faultLine number rule item = faultWord ++ digits number ++ space ++ digits rule ++ space ++ digits item ++ newline
 
--- a refusal: its number and its place
+-- the line for a refusal: its number and its place
 unfoldable pub refusedLine : ℕ → ℕ → List ℕ
 refusedLine number place = refusedWord ++ digits number ++ space ++ digits place ++ newline

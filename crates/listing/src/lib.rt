@@ -1,5 +1,5 @@
 // The lines of a listing. Each is put together in memory of its own and then copied into a lent buffer at a place; the place after it
-// is given. A line that does not fit is left out whole: buffer and place stay as they were.
+// is returned. A line that does not fit is left out as a whole: buffer and place stay as they were.
 ghost use Prim.Native.Nat.{_+_, _≤_};
 ghost use mathlib.Core.Path.{_≡_};
 ghost use mathlib.Core.List.{_++_};
@@ -8,7 +8,7 @@ ghost use Rattle.wire.specs.Bytes.{laid};
 ghost use Rattle.decimal.specs.Digits.{digits, placeAfter};
 ghost use Rattle.listing.specs.Lines.{letters, countLine, recordLine, acceptedLine, faultLine, refusedLine};
 
-// Lays bytes over the buffer, whole or not at all.
+// Copies bytes into the buffer, whole or not at all, and returns the place after them.
 fn lay(out: &mut [u8], at: usize, s: &[u8]) -> usize
     ensures { λ r. ⌜ (now (out .exit) ≡ laid (now (out .entry)) at (now (s .entry))) × (r ≡ placeAfter (now (out .entry)) at (now (s .entry))) ⌝ }
 {
@@ -18,7 +18,7 @@ fn lay(out: &mut [u8], at: usize, s: &[u8]) -> usize
     at
 }
 
-// Adds bytes to a line that has n so far.
+// Adds bytes to a line that has n bytes so far.
 fn add(line: &mut [u8; 96], n: usize, s: &[u8]) -> usize
     requires { ⌜ n + length (now s) ≤ 96 ⌝ }
     ensures { λ r. ⌜ (take r (now (line .exit)) ≡ take n (now (line .entry)) ++ now (s .entry)) × (r ≡ n + length (now (s .entry))) × (r ≤ length (now (line .exit))) ⌝ }

@@ -1,4 +1,4 @@
--- A log is read whole exactly where it is records joined. Assumes nothing.
+-- A log is read exactly if it consists of records joined. Assumes nothing.
 use mathlib.Core.Path.{_≡_, refl, sym, ap, _∙_}
 use mathlib.Core.List.{List, [], _∷_, _++_}
 use Prim.Native.Nat.{ℕ, zero, suc, _+_, _-_, _≤_, _<_}

@@ -1,4 +1,4 @@
--- Bytes behind a record do not matter to it. Assumes nothing.
+-- Bytes after a record do not matter to it. Assumes nothing.
 use mathlib.Core.Path.{_≡_, refl, ap, _∙_}
 use mathlib.Core.Bool.{Bool, true, false, cond}
 use mathlib.Core.List.{List, _++_}

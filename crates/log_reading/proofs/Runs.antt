@@ -1,4 +1,4 @@
--- Bytes and numbers that stand a step apart, taken one by one. Assumes nothing.
+-- Bytes and numbers at equal distances, taken one by one. Assumes nothing.
 use mathlib.Core.Path.{_≡_}
 use mathlib.Core.List.{List, [], _∷_}
 use Prim.Native.Nat.{ℕ, suc, _+_, _-_, _≤_, _<_}

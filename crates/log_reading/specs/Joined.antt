@@ -1,4 +1,4 @@
--- A log is records joined back to back, and nothing here speaks of a walk. Definitions only.
+-- A log as records joined back to back, without a walk over its bytes. Definitions only.
 use Prim.Native.Nat.{ℕ, _≤_, _<_}
 use mathlib.Core.Path.{_≡_}
 use mathlib.Core.Logic.{_↔_, _⊎_}
@@ -10,7 +10,7 @@ use Rattle.time_log.specs.Contents.{countAt}
 use Rattle.time_log.specs.Judging.{recordRefusal}
 use Rattle.log_reading.specs.Logs.{wholeLog, badLog, logOf}
 
--- bytes that are one record, and nothing more
+-- bytes that are exactly one record
 pub record OneRecord (layout logged : ℕ) (r : List ℕ) : Type 0 where
   pub long : length r ≡ recordLength layout (countAt layout r)
   pub right : recordRefusal layout logged r ≡ 0
@@ -20,7 +20,7 @@ abbrev pub AllRecords : ℕ → ℕ → List (List ℕ) → Type 0
 AllRecords layout logged [] = Unit {0}
 AllRecords layout logged (r ∷ rs) = OneRecord layout logged r × AllRecords layout logged rs
 
--- bytes that are n records
+-- bytes that are n records joined
 pub record Records (layout logged n : ℕ) (s : List ℕ) : Type 0 where
   pub parts : List (List ℕ)
   pub records : AllRecords layout logged parts
@@ -31,7 +31,7 @@ pub record Records (layout logged n : ℕ) (s : List ℕ) : Type 0 where
 abbrev pub LogsAreRecords : Type 0
 LogsAreRecords = (layout logged n : ℕ) (s : List ℕ) → layout ≤ 511 → (logOf layout logged s ≡ wholeLog n) ↔ Records layout logged n s
 
--- bytes that are whole records up to the start, and from there on others, not none, that are refused as a record
+-- whole records up to the start, followed by at least one byte, and the bytes from there on are refused as a record
 pub record RefusedAt (layout logged number start : ℕ) (s : List ℕ) : Type 0 where
   pub before : List (List ℕ)
   pub records : AllRecords layout logged before
@@ -41,7 +41,7 @@ pub record RefusedAt (layout logged number start : ℕ) (s : List ℕ) : Type 0 
   pub cause : recordRefusal layout logged rest ≡ number
   pub at : length (joined before) ≡ start
 
--- a log is refused exactly for a layout bit above 8, with 47 and 0, or for such a record, with its number and its start
+-- a log is refused exactly if its layout has a bit above 8, with 47 and 0, or for such a record, with the record's refusal and start
 abbrev pub LogsAreRefused : Type 0
 LogsAreRefused = (layout logged number start : ℕ) (s : List ℕ) → 0 < number
     → (logOf layout logged s ≡ badLog number start) ↔ (((511 < layout) × (number ≡ 47) × (start ≡ 0)) ⊎ ((layout ≤ 511) × RefusedAt layout logged number start s))

@@ -12,7 +12,7 @@ use Rattle.time_log.specs.Judging.{recordRefusal}
 use Rattle.time_log.specs.declared.Fields.{Fields}
 use Rattle.log_reading.specs.declared.Record.{Record}
 
--- 46, after all other reasons: a list has fewer elements than the record has values
+-- why a record is not read; 46, after all other refusals: a list has fewer elements than the record has values
 unfoldable pub readRefusal : ℕ → ℕ → List ℕ → ℕ → ℕ → ℕ
 readRefusal layout logged s ordinals values =
     cond (eqb (recordRefusal layout logged s) 0)
@@ -36,25 +36,25 @@ noFields =
       «gps_date» = 0;
     }
 
--- a refusal's number comes with zeros
+-- the answer with a refusal's number: everything else is 0
 abbrev pub refusedBy : ℕ → Record
 refusedBy n = record { number = n; length = 0; count = 0; fields = noFields }
 
--- the answer where nothing is refused
+-- the answer for a record that is read
 abbrev pub wholeRecord : ℕ → List ℕ → Record
 wholeRecord layout s = record { number = 0; length = recordLength layout (countAt layout s); count = countAt layout s; fields = fieldsAt layout s }
 
--- the answer for one record, given how many ordinals and values there is room for
+-- what reading one record answers, given how many ordinals and values there is room for
 unfoldable pub readOf : ℕ → ℕ → List ℕ → ℕ → ℕ → Record
 readOf layout logged s ordinals values =
     cond (eqb (readRefusal layout logged s ordinals values) 0) (wholeRecord layout s) (refusedBy (readRefusal layout logged s ordinals values))
 
--- the lists then start with what the record holds, and later elements stay; a refusal changes nothing
+-- the list of ordinals after the call: it starts with the record's, and later elements are as before; a refusal changes nothing
 unfoldable pub ordinalsAfter : ℕ → ℕ → List ℕ → List ℕ → List ℤ → List ℕ
 ordinalsAfter layout logged s ordinals values =
     cond (eqb (readRefusal layout logged s (length ordinals) (length values)) 0) (sets ordinals 0 (ordinalsAt layout s)) ordinals
 
--- the list of values after the call: a record that is read is laid over its start
+-- the list of values after the call, likewise
 unfoldable pub valuesAfter : ℕ → ℕ → List ℕ → List ℕ → List ℤ → List ℤ
 valuesAfter layout logged s ordinals values =
     cond (eqb (readRefusal layout logged s (length ordinals) (length values)) 0) (sets values 0 (valuesAt layout s)) values

@@ -1,4 +1,4 @@
--- A log record by its parts alone, and bytes that end inside one: nothing here asks where a field stands or a record ends. Definitions only.
+-- A log record by the lengths of its parts alone, and bytes that end inside one, without places of fields or records. Definitions only.
 use Prim.Native.Nat.{ℕ, _+_, _*_, _≤_, _<_}
 use mathlib.Core.Path.{_≡_}
 use mathlib.Core.Logic.{_↔_}
@@ -8,8 +8,8 @@ use Rattle.wire.specs.Bytes.{Octets}
 use Rattle.time_log.specs.Layout.{mark}
 use Rattle.time_log.specs.Judging.{recordRefusal}
 
--- the bytes before the count byte: time and days, and of north, east, up, status, PDOP, HDOP, satellites, GPS time and GPS date
--- those that are marked
+-- how many bytes come before the count byte: those of time and days, and of the marked ones among north, east, up, status, PDOP, HDOP,
+-- satellites, GPS time and GPS date
 abbrev pub fieldBytes : ℕ → ℕ
 fieldBytes layout =
     4 + 2 + mark layout 0 * 4 + mark layout 1 * 4 + mark layout 2 * 4 + mark layout 3 * 1 + mark layout 4 * 2 + mark layout 5 * 2 + mark layout 6 * 1 + mark layout 7 * 4 + mark layout 8 * 2
@@ -23,7 +23,7 @@ pub record Whole (layout : ℕ) (r : List ℕ) : Type 0 where
   pub fields-long : length fields ≡ fieldBytes layout
   pub pairs-long : length pairs ≡ 5 * count
 
--- bytes that end inside a record: some more bytes would make them a whole one
+-- bytes that end inside a record: more bytes would make them a whole one
 pub record Cut (layout : ℕ) (s : List ℕ) : Type 0 where
   pub more : List ℕ
   pub some : 0 < length more

@@ -1,4 +1,4 @@
--- Worked records: the example of 000's D.49, one with all nine marks whose bytes all differ, and each limit from both sides. Definitions only.
+-- Worked records: the example of 000's D.49, one with all nine marks and no equal bytes, and each limit from both sides. Definitions only.
 use Prim.Native.Nat.{ℕ}
 use mathlib.Core.Path.{_≡_}
 use mathlib.Core.List.{List, [], _∷_, _++_}
@@ -19,13 +19,13 @@ abbrev pub full : List ℕ
 full =
     0x10 ∷ 0x11 ∷ 0x12 ∷ 0x05 ∷ 0x13 ∷ 0x14 ∷ 0xF5 ∷ 0xF6 ∷ 0xF7 ∷ 0xF8 ∷ 0x15 ∷ 0x16 ∷ 0x17 ∷ 0x18 ∷ 0xF1 ∷ 0xF2 ∷ 0xF3 ∷ 0xF4 ∷ 0x08 ∷ 0x19 ∷ 0x1A ∷ 0x1B ∷ 0x1C ∷ 0x1D ∷ 0x1E ∷ 0x1F ∷ 0x20 ∷ 0x21 ∷ 0x22 ∷ 0x23 ∷ 0x02 ∷ 0x00 ∷ 0x24 ∷ 0x25 ∷ 0x26 ∷ 0x27 ∷ 0x01 ∷ 0xF9 ∷ 0xFA ∷ 0xFB ∷ 0xFC ∷ []
 
--- the answer for a record with a time, north, east, a status and one value, where the header counts two log values
+-- the refusal, or 0, of a record with a time, north, east, a status and one value, if the header counts two log values
 abbrev pub judged : ℕ → ℤ → ℤ → ℕ → ℕ → ℕ
 judged time north east status ordinal =
     recordRefusal 0x00B 2
     (bytesOf 4 time ++ (0x25 ∷ 0x24 ∷ (bytesOf 4 (bitsOf 4 north) ++ (bytesOf 4 (bitsOf 4 east) ++ (status ∷ 1 ∷ ordinal ∷ 0 ∷ 0 ∷ 0 ∷ 0 ∷ [])))))
 
--- what is read of both, as records and as logs
+-- what is read from both, as records and as logs
 pub record RecordsRead : Type 0 where
   pub example-read : readOf 0x00B 2 example 2 2 ≡ record { number = 0; length = 26; count = 2; fields = record { time = 59520000; days = 9253; north = pos 510067800; east = pos 60348900; up = pos 0; status = 1; pdop = 0; hdop = 0; satellites = 0; «gps_time» = 0; «gps_date» = 0 } }
   pub example-ordinals : ordinalsAfter 0x00B 2 example (9 ∷ 9 ∷ 9 ∷ []) (pos 9 ∷ pos 9 ∷ []) ≡ 0 ∷ 1 ∷ 9 ∷ []
@@ -36,7 +36,7 @@ pub record RecordsRead : Type 0 where
   pub log-read : logOf 0x00B 2 (example ++ example) ≡ wholeLog 2
   pub log-cut : logOf 0x00B 2 (example ++ take 25 example) ≡ badLog 40 26
 
--- each limit from both sides; of several values out of range the first in the order of the fields is named (negsuc n is -1 - n)
+-- each limit from both sides; if several values are out of range, the first in the order of the fields is refused (negsuc n is -1 - n)
 pub record LimitsJudged : Type 0 where
   pub upper : judged 86399999 (pos 900000000) (pos 1800000000) 8 1 ≡ 0
   pub lower : judged 0 (negsuc 899999999) (negsuc 1799999999) 0 0 ≡ 0

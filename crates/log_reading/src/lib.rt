@@ -11,7 +11,7 @@ ghost use Rattle.log_reading.specs.Joined.{LogsAreRecords, LogsAreRefuse
 ghost use Rattle.log_reading.specs.Whole.{CutIsForty};
 ghost use Rattle.log_reading.specs.Worked.{WorkedRecords};
 
-// What reading a record gives: number 0 with its length, its count of values and its fields, or a refusal with zeros.
+// What reading a record answers: number 0 with its length, its count of values and its fields, or a refusal with zeros.
 #[repr(C)]
 pub struct Record {
     pub number: u32,
@@ -70,7 +70,7 @@ fn fill_values(bytes: &[u8], at: usize, values: &mut [i32], n: usize)
     }
 }
 
-// Reads the record that the bytes start with; those behind it do not matter.
+// Reads the record that the bytes start with; the bytes after it do not matter.
 pub fn read_record(
     bytes: &[u8],
     layout: u32,
@@ -112,7 +112,7 @@ pub fn read_record(
     }
 }
 
-// What reading a log gives: number 0 and the count of its records, or a refusal and its record's start.
+// What reading a log answers: number 0 and the count of its records, or a refusal and the start of the refused record.
 #[repr(C)]
 pub struct Log {
     pub number: u32,
@@ -157,12 +157,12 @@ pub fn read_log(bytes: &[u8], layout: u32, logged: usize) -> Log
 
 // The functions below do nothing: their contracts are claims, so that the report names them.
 
-// A log is read exactly if it is records joined.
+// A log is read exactly if it consists of records joined back to back.
 pub fn logs_are_records()
     ensures { λ _. ⌜ LogsAreRecords ⌝ }
 {}
 
-// A log is refused exactly if a bad record, or bytes that end inside one, follow whole records, or for its layout.
+// A log is refused exactly if whole records are followed by a bad record or by bytes that end inside one, or if its layout is bad.
 pub fn logs_are_refused()
     ensures { λ _. ⌜ LogsAreRefused ⌝ }
 {}

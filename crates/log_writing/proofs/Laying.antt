@@ -1,4 +1,4 @@
--- The parts of a record laid down one behind the other. Assumes nothing.
+-- The parts of a record written one after the other. Assumes nothing.
 use mathlib.Core.Path.{_≡_, refl, sym, ap, _∙_}
 use mathlib.Core.List.{List, [], _∷_, _++_}
 use Prim.Native.Nat.{ℕ, zero, suc, _+_, _-_, _≤_, _<_}

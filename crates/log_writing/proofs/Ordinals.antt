@@ -1,4 +1,4 @@
--- A list of ordinals held against the count of log values one by one. Assumes nothing.
+-- A list of ordinals compared with the count of log values one by one. Assumes nothing.
 use mathlib.Core.Path.{_≡_, refl, sym}
 use mathlib.Core.Bool.{Bool, true, false, _||_}
 use mathlib.Core.List.{List}

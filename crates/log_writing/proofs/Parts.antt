@@ -1,4 +1,4 @@
--- The parts of a record that is read, laid down again. Assumes nothing.
+-- The parts of a record that is read, written again. Assumes nothing.
 use mathlib.Core.Path.{_≡_, refl, sym, ap, ap₂, _∙_}
 use mathlib.Core.Bool.{Bool, true, false, cond}
 use mathlib.Core.Logic.{_⊎_, inl, inr}

@@ -10,8 +10,8 @@ use Rattle.log_reading.specs.Reading.{readOf, ordinalsAfter, valuesAfter}
 use Rattle.log_reading.specs.declared.Record.{Record}
 use Rattle.log_writing.specs.Writing.{writeRefusal, writtenAs, bytesAfter}
 
--- Every record that is read into two lists is written from them, with its fields and its count, wherever there is room: the answer
--- is its length, and what is lent then starts with the very bytes that were read and keeps the rest.
+-- Every record that is read into two lists is written from them, with its fields and its count, if there is room: the answer
+-- is its length, and the lent bytes then start with exactly the bytes that were read and are otherwise as before.
 abbrev pub WrittenAgain : Type 0
 WrittenAgain = (s : List ℕ) (layout logged : ℕ) (ps : List ℕ) (ws : List ℤ) (to : List ℕ) (r : Record)
     → Octets s → readOf layout logged s (length ps) (length ws) ≡ r → r .number ≡ 0 → r .length ≤ length to

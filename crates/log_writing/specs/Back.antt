@@ -11,7 +11,7 @@ use Rattle.log_reading.specs.Reading.{readOf, ordinalsAfter, valuesAfter}
 use Rattle.log_writing.specs.Writing.{keptFields, writeRefusal, bytesAfter}
 use Rattle.time_log.specs.declared.Fields.{Fields}
 
--- fields that are numbers of their types
+-- the fields are within the ranges of their types
 pub record Typed (f : Fields) : Type 0 where
   pub time : f .time < 256 ^ 4
   pub days : f .days < 256 ^ 2

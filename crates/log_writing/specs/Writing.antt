@@ -12,15 +12,15 @@ use Rattle.time_log.specs.Judging.{anyOver, fieldsRefusal}
 use Rattle.time_log.specs.declared.Fields.{Fields}
 use Rattle.log_writing.specs.declared.Written.{Written}
 
--- optional field k as it is written: 0 where the layout does not mark it, whatever is handed over for it
+-- optional field k as it is judged and written: 0 if the layout does not mark it, whatever is passed for it
 abbrev pub keptNumber : ℕ → ℕ → ℕ → ℕ
 keptNumber layout k x = cond (eqb (partWidth layout k) 0) 0 x
 
--- the same of a signed field
+-- the same for a signed field
 abbrev pub keptSigned : ℕ → ℕ → ℤ → ℤ
 keptSigned layout k z = cond (eqb (partWidth layout k) 0) (pos 0) z
 
--- all fields as they are written; time and days are always there
+-- all fields as they are judged and written; time and days are always present
 abbrev pub keptFields : ℕ → Fields → Fields
 keptFields layout f =
     record {
@@ -45,7 +45,7 @@ fieldBits f k =
     k
     0
 
--- the bytes before optional field k; before place 9 they are all fields
+-- the bytes before optional field k; for k = 9 these are all fields
 unfoldable pub bytesBefore : ℕ → Fields → ℕ → List ℕ
 bytesBefore layout f zero = bytesOf 4 (f .time) ++ bytesOf 2 (f .days)
 bytesBefore layout f (suc k) = bytesBefore layout f k ++ bytesOf (partWidth layout k) (fieldBits f k)
@@ -55,11 +55,11 @@ unfoldable pub pairsFrom : List ℕ → List ℤ → ℕ → ℕ → List ℕ
 pairsFrom os vs i zero = []
 pairsFrom os vs i (suc n) = getD os i 0 ∷ (bytesOf 4 (bitsOf 4 (getD vs i (pos 0))) ++ pairsFrom os vs (i + 1) n)
 
--- a record: the fields that the layout has, the count, and the values with their ordinals
+-- the bytes of a record: the fields that the layout marks, the count, and the ordinals with their values
 unfoldable pub recordBytes : ℕ → Fields → ℕ → List ℕ → List ℤ → List ℕ
 recordBytes layout f n os vs = bytesBefore layout f 9 ++ (n ∷ pairsFrom os vs 0 n)
 
--- 47; 48 more values than a byte counts or than a list has; 41 to 45 for what is written; 46 no room
+-- why a record is not written: 47; 48 if there are more values than 255 or than a list has; 41 to 45 for what is written; 46 for no room
 unfoldable pub writeRefusal : ℕ → Fields → ℕ → List ℕ → List ℤ → ℕ → ℕ → ℕ
 writeRefusal layout f logged os vs n room =
     cond (ltb 511 layout) 47
@@ -67,11 +67,11 @@ writeRefusal layout f logged os vs n room =
     (cond (eqb (fieldsRefusal (keptFields layout f) (anyOver logged (take n os))) 0) (cond (ltb room (recordLength layout n)) 46 0)
     (fieldsRefusal (keptFields layout f) (anyOver logged (take n os)))))
 
--- the number, and the record's length where it is written
+-- what writing answers: the number, and the record's length if it is written
 abbrev pub writtenAs : ℕ → ℕ → Written
 writtenAs x long = record { number = x; length = cond (eqb x 0) long 0 }
 
--- what is lent then starts with the record, and later bytes stay; a refusal changes nothing
+-- the lent bytes afterwards: they start with the record, and later bytes are as before; a refusal changes nothing
 unfoldable pub bytesAfter : List ℕ → ℕ → Fields → ℕ → List ℕ → List ℤ → ℕ → List ℕ
 bytesAfter to layout f logged os vs n =
     cond (eqb (writeRefusal layout f logged os vs n (length to)) 0) (sets to 0 (recordBytes layout (keptFields layout f) n os vs)) to

@@ -12,7 +12,7 @@ ghost use Rattle.log_writing.specs.Writing.{writeRefusal, writtenAs, byt
 ghost use Rattle.log_writing.specs.Back.{ReadsBack};
 ghost use Rattle.log_writing.specs.Again.{WrittenAgain};
 
-// What writing a record gives: number 0 and its length, or a refusal and 0.
+// What writing a record answers: number 0 and its length, or a refusal and 0.
 #[repr(C)]
 pub struct Written {
     pub number: u32,
@@ -37,7 +37,7 @@ fn any_of_list_over(s: &[u8], n: usize, logged: usize) -> bool
     over
 }
 
-// Writes a record of the first so many ordinals and values from the start of the bytes on.
+// Writes a record of the first `count` ordinals and values into the first bytes.
 pub fn write_record(
     to: &mut [u8],
     layout: u32,

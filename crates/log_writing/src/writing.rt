@@ -1,4 +1,4 @@
-// The fields and the pairs of a record, written where there is room for them.
+// The fields of a record and its pairs of ordinal and value, written into bytes that have room for them.
 use time_log::Fields;
 use time_log::Places;
 ghost use mathlib.Core.Path.{_≡_};
@@ -58,7 +58,7 @@ pub fn kept(layout: u32, fields: Fields) -> Fields
     }
 }
 
-// Writes optional field k in its w bytes at its place, where it is marked.
+// Writes optional field k in its w bytes at its place, if it is marked.
 fn put_part(to: &mut [u8], layout: u32, k: usize, at: usize, w: usize, x: u32)
     requires { ⌜ (k ≤ 8) × (at ≡ placeOf layout k) × (w ≡ width k) × (placeOf layout 9 ≤ length (now to)) ⌝ }
     ensures { λ _. ⌜ now (to .exit) ≡ sets (now (to .entry)) (placeOf layout k) (bytesOf (partWidth layout k) x) ⌝ }
@@ -94,7 +94,7 @@ pub fn put_fields(to: &mut [u8], layout: u32, places: Places, fields: Fields)
     put_part(to, layout, 8, places.gps_date, 2, fields.gps_date as u32);
 }
 
-// Writes n ordinals, each with its value behind it.
+// Writes n ordinals, each followed by its value.
 pub fn put_pairs(to: &mut [u8], at: usize, ordinals: &[u8], values: &[i32], n: usize)
     requires { ⌜ (n ≤ 255) × (n ≤ length (now ordinals)) × (n ≤ length (now values)) × (at + 5 * n ≤ length (now to)) ⌝ }
     ensures { λ _. ⌜ now (to .exit) ≡ sets (now (to .entry)) at (pairsFrom (now (ordinals .entry)) (now (values .entry)) 0 n) ⌝ }

@@ -1,4 +1,4 @@
--- One bit more in a list of bits. Assumes nothing.
+-- One more bit set in a list of bits. Assumes nothing.
 use mathlib.Core.Path.{_≡_, refl, sym, ap, _∙_}
 use mathlib.Core.Bool.{Bool, true, false, _||_}
 use mathlib.Core.List.{List}

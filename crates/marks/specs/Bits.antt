@@ -5,11 +5,11 @@ use mathlib.Core.List.{List}
 use lib.Dec.{eqb}
 use lib.ListN.{getD}
 
--- bit k of a byte, which is worth 2 ^ k
+-- bit k of a byte, whose value is 2 ^ k
 unfoldable pub bit : ℕ → ℕ → Bool
 bit w k = eqb (w / 2 ^ k % 2) 1
 
--- bit i of the list: eight to a byte, the lowest first
+-- bit i of the list: eight in a byte, the lowest first
 unfoldable pub bitAt : List ℕ → ℕ → Bool
 unfolding bit
 bitAt marks i = bit (getD marks (i / 8) 0) (i % 8)

@@ -1,4 +1,4 @@
-// Marks under numbers, eight in a byte. The list is lent.
+// A set of numbers as a list of bits, eight in a byte: a number in the set is marked. The list is lent.
 ghost use mathlib.Core.Path.{_≡_};
 ghost use mathlib.Core.Bool.{_||_};
 ghost use Prim.Native.Nat.{ℕ, _*_, _<_};
@@ -23,7 +23,7 @@ pub fn mark(marks: &mut [u8], i: usize)
     marks[at] = marks[at] | (1u8 << (i % 8));
 }
 
-// Marks the number i, and tells whether it was marked.
+// Marks the number i, and returns whether it was marked before.
 pub fn note(marks: &mut [u8], i: usize) -> bool
     requires { ⌜ i < 8 * length (now marks) ⌝ }
     ensures { λ r. ⌜ (r ≡ bitAt (now (marks .entry)) i) × (length (now (marks .exit)) ≡ length (now (marks .entry))) × ((j : ℕ) → j < 8 * length (now (marks .entry)) → bitAt (now (marks .exit)) j ≡ (eqb j i || bitAt (now (marks .entry)) j)) ⌝ }

@@ -1,4 +1,4 @@
--- Bytes laid down one part behind the other. Assumes nothing.
+-- Bytes written one part after the other. Assumes nothing.
 use mathlib.Core.Path.{_≡_, refl, sym, ap, _∙_}
 use mathlib.Core.Bool.{Bool, true, false, _&&_, _||_, true≢false}
 use mathlib.Core.List.{List, _∷_, _++_}

@@ -14,12 +14,12 @@ use Rattle.messages.specs.Writing.{valueRefusal, valueAfter, acknowledge
 
 -- both ways: written and read, read and written
 pub record ReadsBack : Type 0 where
-  -- every message that is written, into eight bytes or more
+  -- every message that is written, into eight bytes or more, reads back the same
   pub value : (to : List ℕ) (command element ddi : ℕ) (v : ℤ) → valueRefusal command element (length to) ≡ 0 → ddi < 65536 → mag v < 2 ^ 31
       → readOf (take 8 (valueAfter to command element ddi v)) ≡ valued command element ddi v
   pub acknowledge : (to : List ℕ) (element ddi errors answered : ℕ) → acknowledgeRefusal element answered (length to) ≡ 0 → ddi < 65536
       → readOf (take 8 (acknowledgeAfter to element ddi errors answered)) ≡ acknowledged element ddi errors answered
-  -- every message that is read; an acknowledge's ignored bits come back as ones
+  -- every message that is read is written back the same; the ignored bits of an acknowledge become ones
   pub value-again : (s : List ℕ) (command element ddi : ℕ) (v : ℤ) → Octets s → carriesValue command ≡ true → readOf s ≡ valued command element ddi v
       → valueBytes command element ddi v ≡ s
   pub acknowledge-again : (s : List ℕ) (element ddi errors answered : ℕ) → Octets s → readOf s ≡ acknowledged element ddi errors answered

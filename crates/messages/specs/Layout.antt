@@ -14,14 +14,14 @@ carriesValue c = (leb 2 c && leb c 8) || eqb c 10
 abbrev pub acknowledge : ℕ
 acknowledge = 13
 
--- command and the low half byte of the element number, its upper eight bits, the DDI
+-- the first four bytes: the command with the lowest four bits of the element number, its upper eight bits, the DDI
 unfoldable pub headBytes : ℕ → ℕ → ℕ → List ℕ
 headBytes command element ddi = (element % 16 * 16 + command) ∷ (element / 16) ∷ bytesOf 2 ddi
 
--- then a signed value
+-- a value message: these, then a signed value
 unfoldable pub valueBytes : ℕ → ℕ → ℕ → ℤ → List ℕ
 valueBytes command element ddi value = headBytes command element ddi ++ bytesOf 4 (bitsOf 4 value)
 
--- or error bits and the answered command in a low half byte; what is ignored when read is written as ones
+-- an acknowledge: these, then the error bits and the answered command in four bits; the bits that reading ignores are written as ones
 unfoldable pub acknowledgeBytes : ℕ → ℕ → ℕ → ℕ → List ℕ
 acknowledgeBytes element ddi errors answered = headBytes acknowledge element ddi ++ errors ∷ (240 + answered) ∷ 255 ∷ 255 ∷ []

@@ -10,7 +10,7 @@ use Rattle.messages.specs.Layout.{carriesValue, acknowledge}
 use Rattle.messages.specs.declared.Message.{Message}
 use Rattle.messages.specs.declared.Message.the-variants.{Value, Acknowledge, NotEight, NoCommand}
 
--- what is read: number 0 and the fields, or a refusal's number; what a message does not have is zeros
+-- what is read: number 0 and the fields, or a refusal's number; fields that a message does not have are 0
 pub record Fields : Type 0 where
   pub number : ℕ
   pub command : ℕ
@@ -33,22 +33,22 @@ acknowledged element ddi errors answered =
 abbrev pub refused : ℕ → Fields
 refused n = record { number = n; command = 0; element = 0; ddi = 0; value = pos 0; errors = 0; answered = 0 }
 
--- the number and the fields that each answer stands for
+-- the number and the fields of each answer
 abbrev pub fieldsOf : Message → Fields
 fieldsOf (Value command element ddi value) = valued command element ddi value
 fieldsOf (Acknowledge element ddi errors answered) = acknowledged element ddi errors answered
 fieldsOf NotEight = refused 30
 fieldsOf NoCommand = refused 31
 
--- the fields of eight bytes
+-- the command: the lower four bits of the first byte
 abbrev pub commandIn : List ℕ → ℕ
 commandIn s = getD s 0 0 % 16
 
--- the element number: four bits of the first byte, and the second byte above them
+-- the element number: the upper four bits of the first byte are its lowest bits, and the second byte is the upper eight
 abbrev pub elementIn : List ℕ → ℕ
 elementIn s = getD s 0 0 / 16 + 16 * getD s 1 0
 
--- 30 for other than eight bytes; a value message; an acknowledge; 31 for any other command
+-- reading: 30 unless there are eight bytes; a value message; an acknowledge; 31 for any other command
 unfoldable pub readOf : List ℕ → Fields
 readOf s =
     cond (not (eqb (length s) 8)) (refused 30)

@@ -10,7 +10,7 @@ ghost use Rattle.messages.specs.Writing.{numberOf, valueRefusal, valueAf
 ghost use Rattle.messages.specs.Back.{ReadsBack};
 ghost use Rattle.messages.specs.Worked.{WorkedMessages};
 
-// What reading gives: a value message, an acknowledge, or why there is none. The refusals are 30 and 31.
+// What reading answers: a value message, an acknowledge, or a refusal (30 and 31).
 pub enum Message {
     Value {
         command: u8,
@@ -72,7 +72,7 @@ pub fn read(bytes: &[u8]) -> Message
     Message::NoCommand
 }
 
-// Lays down the first four bytes.
+// Writes the first four bytes: command, element number and DDI.
 fn put_head(to: &mut [u8], command: u8, element: u16, ddi: u16)
     requires { ⌜ (8 ≤ length (now to)) × (command < 16) × (element ≤ 4095) ⌝ }
     ensures { λ _. ⌜ now (to .exit) ≡ sets (now (to .entry)) 0 (headBytes command element ddi) ⌝ }
@@ -82,7 +82,7 @@ fn put_head(to: &mut [u8], command: u8, element: u16, ddi: u16)
     wire::write_u16(to, 2, ddi);
 }
 
-// Writes a value message. A command or element number is taken in 32 bits, so that none is cut to another on its way here.
+// Writes a value message. Command and element number are passed in 32 bits, so that a number out of range is not truncated to a valid one.
 pub fn write_value(to: &mut [u8], command: u32, element: u32, ddi: u16, value: i32) -> Written
     ensures { λ r. ⌜ (numberOf r ≡ valueRefusal command element (length (now (to .entry)))) × (now (to .exit) ≡ valueAfter (now (to .entry)) command element ddi value) ⌝ }
 {
@@ -100,7 +100,7 @@ pub fn write_value(to: &mut [u8], command: u32, element: u32, ddi: u16, value: i
     Written::Done
 }
 
-// Lays down the last four bytes of an acknowledge.
+// Writes the last four bytes of an acknowledge.
 fn put_answer(to: &mut [u8], errors: u8, answered: u8)
     requires { ⌜ (8 ≤ length (now to)) × (answered ≤ 15) ⌝ }
     ensures { λ _. ⌜ now (to .exit) ≡ sets (now (to .entry)) 4 (errors ∷ (240 + answered) ∷ 255 ∷ 255 ∷ []) ⌝ }
@@ -132,7 +132,7 @@ pub fn write_acknowledge(
     Written::Done
 }
 
-// Document 01's number for what writing answers, 0 where the message is written.
+// Document 01's number for what writing answers, 0 if the message is written.
 pub fn number_of(written: Written) -> u32
     ensures { λ r. ⌜ r ≡ numberOf written ⌝ }
 {

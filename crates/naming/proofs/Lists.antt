@@ -1,4 +1,4 @@
--- Lists that are new. Assumes nothing.
+-- Blank lists. Assumes nothing.
 use mathlib.Core.Path.{refl}
 use Prim.Native.Nat.{ℕ, zero, suc, _≤_}
 use native.Mathlib.Omega.{arith}

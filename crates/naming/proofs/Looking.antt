@@ -1,4 +1,4 @@
--- Looking for the first record of some sort. Assumes nothing.
+-- Searching for the first record with a property. Assumes nothing.
 use mathlib.Core.Path.{_≡_, sym, ap, _∙_}
 use mathlib.Core.Bool.{false}
 use mathlib.Core.Logic.{⊎-elim}

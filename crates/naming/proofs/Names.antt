@@ -1,4 +1,4 @@
--- What the lists say of the records between the starts. Assumes nothing.
+-- What the lists say about the records of a list of starts. Assumes nothing.
 use mathlib.Core.Path.{_≡_, refl, sym, ap, _∙_}
 use mathlib.Core.Bool.{Bool, true, false, not}
 use mathlib.Core.List.{List}

@@ -1,4 +1,4 @@
--- Where all IDs are distinct, none is 65535 and a device has 0, every other record has an ID of its own. Assumes nothing.
+-- If all IDs are distinct, none is 65535 and a device has 0, every other record has an ID of its own. Assumes nothing.
 use mathlib.Core.Path.{_≡_, sym, ap, _∙_}
 use mathlib.Core.List.{List}
 use Prim.Native.Nat.{ℕ, suc, _-_, _<_}

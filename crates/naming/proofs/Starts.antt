@@ -1,4 +1,4 @@
--- The records between starts by number: their starts, kinds and IDs as they stand in the pool. Assumes nothing.
+-- The records of a list of starts by number: their starts, kinds and IDs as in the pool. Assumes nothing.
 use mathlib.Core.Path.{_≡_, refl, sym, ap, _∙_}
 use mathlib.Core.List.{List}
 use Prim.Native.Nat.{ℕ, zero, suc, _+_, _-_, _≤_, _<_}

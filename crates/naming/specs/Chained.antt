@@ -13,8 +13,8 @@ use Rattle.naming.specs.Records.{idAt, kindAt}
 use Rattle.naming.specs.Naming.{firstOf}
 use Rattle.naming.specs.Lists.{idIn}
 
--- the slot of a key among m, a power of two: the lowest bits of the key, so that neighbours lie apart. At most 65,536 / m keys of 16 bits
--- have one slot
+-- the slot of a key among m, a power of two: the lowest bits of the key, so that consecutive keys have different slots. At most 65,536 / m
+-- keys of 16 bits share a slot
 unfoldable pub slot : ℕ → ℕ → ℕ
 slot m x = bitAnd x (m - 1)
 
@@ -27,23 +27,23 @@ unfoldable pub lastOf : (ℕ → ℕ) → ℕ → ℕ → ℕ → ℕ
 lastOf key m b zero = 0
 lastOf key m b (suc n) = cond (opens key n && eqb (slot m (key n)) b) (suc n) (lastOf key m b n)
 
--- what stands in the links for record i: the last such record before it, or the mark that an earlier one has its key
+-- the link of record i: the last such record before it, or 65535 as a mark that an earlier record has its key
 unfoldable pub linkOf : (ℕ → ℕ) → ℕ → ℕ → ℕ
 linkOf key m i = cond (opens key i) (lastOf key m (slot m (key i)) i) 65535
 
--- the lists of the first n records
+-- the heads and links of the first n records
 pub record Chained (key : ℕ → ℕ) (n : ℕ) (heads next : List ℕ) : Type 0 where
   pub some : 0 < length heads
   pub top : (b : ℕ) → b < length heads → getD heads b 0 ≡ lastOf key (length heads) b n
   pub below : (i : ℕ) → i < n → getD next (suc i) 0 ≡ linkOf key (length heads) i
 
--- the lists name the records of a pool, by their IDs
+-- the lists are those of a pool's records, by their IDs
 pub record Linked (p starts heads next : List ℕ) : Type 0 where
   pub divided : Divided p starts
   pub room : length starts ≤ length next
   pub chained : Chained (idIn p starts) (length starts - 1) heads next
 
--- the same, shut: what follows from it is in the laws
+-- the same as an opaque definition: the laws say what follows from it
 unfoldable pub Names : List ℕ → List ℕ → List ℕ → List ℕ → Type 0
 Names p starts heads next = Linked p starts heads next
 
@@ -51,6 +51,6 @@ Names p starts heads next = Linked p starts heads next
 abbrev pub Distinct : List ℕ → List ℕ → Type 0
 Distinct p starts = (i : ℕ) → i < length starts - 1 → opens (idIn p starts) i ≡ true
 
--- every record but a device has an ID of its own: it is neither 0 nor 65535, and the record is the first that has it
+-- every record other than a device has an ID of its own: it is neither 0 nor 65535, and the record is the first that has it
 abbrev pub Owned : List Entry → Type 0
 Owned es = (i : ℕ) → i < length es → (kindAt es i ≡ 1 → ⊥) → (idAt es i ≡ 0 → ⊥) × (idAt es i ≡ 65535 → ⊥) × (firstOf (idAt es) (idAt es i) (length es) ≡ suc i)

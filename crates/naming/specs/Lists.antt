@@ -1,11 +1,11 @@
--- What is read off the starts of the records, and lists that are new. Definitions only.
+-- The IDs of records by their starts, and blank lists. Definitions only.
 use Prim.Native.Nat.{ℕ}
 use mathlib.Core.Path.{_≡_}
 use mathlib.Core.List.{List}
 use lib.ListN.{getD}
 use Rattle.records.specs.Places.{idOf}
 
--- the ID of record i, as it stands in the pool
+-- the ID of record i, read from the pool
 unfoldable pub idIn : List ℕ → List ℕ → ℕ → ℕ
 idIn p starts i = idOf p (getD starts i 0)
 

@@ -9,21 +9,21 @@ use Rattle.views.specs.Fields.{elementOf}
 use Rattle.pool.specs.Reading.{Entry}
 use Rattle.naming.specs.Records.{startAt, idAt, kindAt}
 
--- a number, unless it is 0
+-- the first number, or the second if the first is 0
 abbrev pub orElse : ℕ → ℕ → ℕ
 orElse zero b = b
 orElse (suc a) b = suc a
 
--- the number, from 1, of the first of n records whose key is x; 0 where there is none
+-- the number, from 1, of the first of n records whose key is x; 0 if there is none
 unfoldable pub firstOf : (ℕ → ℕ) → ℕ → ℕ → ℕ
 firstOf key x zero = 0
 firstOf key x (suc n) = orElse (firstOf key x n) (cond (eqb (key n) x) (suc n) 0)
 
--- keys of record i: for a device element its number and its type, which are else what none has
+-- a device element's element number; for any other record 65536, which is no element number
 abbrev pub numberKey : List ℕ → List Entry → ℕ → ℕ
 numberKey p es i = cond (eqb (kindAt es i) 2) (elementOf p (startAt es i) .number) 65536
 
--- a device element's type; 256, which no byte is, for any other record
+-- a device element's type; for any other record 256, which no byte is
 abbrev pub typeKey : List ℕ → List Entry → ℕ → ℕ
 typeKey p es i = cond (eqb (kindAt es i) 2) (elementOf p (startAt es i) .«element_type») 256
 
@@ -43,7 +43,7 @@ parentOf p es (suc i) =
     let r = named es (elementOf p (startAt es i) .parent) in
     cond (eqb (kindAt es i) 2 && eqb (kindOf es r) 2) r 0
 
--- n steps
+-- where n steps of f lead from r
 unfoldable pub climb : (ℕ → ℕ) → ℕ → ℕ → ℕ
 climb f zero r = r
 climb f (suc n) r = climb f n (f r)
@@ -57,11 +57,11 @@ ddiOf p es (suc i) = numberAt 2 p (startAt es i + 5)
 abbrev pub isData : ℕ → Bool
 isData k = eqb k 3 || eqb k 4
 
--- 0 where a record number stands for no process data or property, else its DDI and 1
+-- the tag of the record with number r: its DDI plus 1 if it is process data or a property, else 0
 unfoldable pub tagOf : List ℕ → List Entry → ℕ → ℕ
 tagOf p es r = cond (isData (kindOf es r)) (suc (ddiOf p es r)) 0
 
--- whether x is among the first n
+-- whether x is among the first n values of f
 unfoldable pub among : (ℕ → ℕ) → ℕ → ℕ → Bool
 among f x zero = false
 among f x (suc n) = among f x n || eqb (f n) x

@@ -4,11 +4,11 @@ use mathlib.Core.List.{List}
 use lib.ListN.{getD}
 use Rattle.pool.specs.Reading.{Entry}
 
--- a record that is not there: it has no kind
+-- the entry for a record that does not exist: it has no kind
 abbrev pub noEntry : Entry
 noEntry = record { start = 0; size = 0; kind = 0; id = 0 }
 
--- record i, its start and its ID
+-- record i
 abbrev pub recordAt : List Entry → ℕ → Entry
 recordAt es i = getD es i noEntry
 
@@ -16,10 +16,10 @@ recordAt es i = getD es i noEntry
 abbrev pub startAt : List Entry → ℕ → ℕ
 startAt es i = recordAt es i .start
 
--- its ID
+-- the ID of record i
 abbrev pub idAt : List Entry → ℕ → ℕ
 idAt es i = recordAt es i .id
 
--- the number of its kind
+-- the number of record i's kind
 abbrev pub kindAt : List Entry → ℕ → ℕ
 kindAt es i = recordAt es i .kind

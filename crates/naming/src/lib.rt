@@ -1,6 +1,6 @@
-// What IDs name, by short lists: heads under the ID's slot, and from each record a link to an earlier one of the same
-// slot, so that the links fall and every walk along them ends. The lists are lent: how many heads there are is the caller's
-// choice, and no ID is too large for them.
+// What IDs name, by short lists: a head for each slot of IDs, and from each record a link to an earlier one of the same slot.
+// Links lead to smaller numbers only, so every walk along them ends. The lists are lent: the caller chooses the number of heads,
+// and no ID is too large for them.
 ghost use mathlib.Core.Path.{_≡_};
 ghost use mathlib.Core.Bool.{true, not};
 ghost use Prim.Native.Nat.{suc, _+_, _≤_, _<_};
@@ -12,7 +12,7 @@ ghost use Rattle.naming.specs.Naming.{firstOf, named, isData, kindOf, pa
 ghost use Rattle.naming.specs.Lists.{idIn, Blank};
 ghost use Rattle.naming.specs.Chained.{slot, opens, Chained, Names, Distinct, Owned};
 
-// The slot of an ID among so many heads.
+// The slot of an ID, given the number of heads.
 fn slot_of(id: u16, heads: usize) -> usize
     requires { ⌜ 0 < heads ⌝ }
     ensures { λ r. ⌜ r ≡ slot heads id ⌝ }
@@ -28,7 +28,7 @@ pub fn id_at(p: &[u8], starts: &[u16], i: usize) -> u16
     wire::pair(p, starts[i] as usize + 3)
 }
 
-// The number of the first of `count` records with an ID, by the lists of those; 0 for none.
+// The number of the first of `count` records with an ID, by the lists for these records; 0 for none.
 fn find(p: &[u8], starts: &[u16], count: usize, heads: &[u16], next: &[u16], id: u16) -> u16
     requires { ⌜ Divided (now p) (now starts) × (count < length (now starts)) × (count < length (now next)) × Chained (idIn (now p) (now starts)) count (now heads) (now next) ⌝ }
     ensures { λ r. ⌜ r ≡ firstOf (idIn (now (p .entry)) (now (starts .entry))) id count ⌝ }
@@ -45,7 +45,7 @@ fn find(p: &[u8], starts: &[u16], count: usize, heads: &[u16], next: &[u16], id:
     0
 }
 
-// Links record i to the last earlier one of its slot, or marks it where an earlier one has its ID. Tells whether none has.
+// Links record i to the last earlier one of its slot, or marks it if an earlier record has its ID. Returns whether none has.
 fn enter(p: &[u8], starts: &[u16], i: usize, heads: &mut [u16], next: &mut [u16]) -> bool
     requires { ⌜ Divided (now p) (now starts) × (i + 1 < length (now starts)) × (length (now starts) ≤ length (now next)) × Chained (idIn (now p) (now starts)) i (now heads) (now next) ⌝ }
     ensures { λ r. ⌜ (r ≡ opens (idIn (now (p .entry)) (now (starts .entry))) i) × Chained (idIn (now (p .entry)) (now (starts .entry))) (i + 1) (now (heads .exit)) (now (next .exit)) ⌝ }
@@ -63,7 +63,7 @@ fn enter(p: &[u8], starts: &[u16], i: usize, heads: &mut [u16], next: &mut [u16]
     true
 }
 
-// Lists the records by ID, and tells whether all IDs are distinct.
+// Lists the records by ID, and returns whether all IDs are distinct.
 fn link_ids(p: &[u8], starts: &[u16], heads: &mut [u16], next: &mut [u16]) -> bool
     requires { ⌜ Divided (now p) (now starts) × (length (now starts) ≤ length (now next)) × (0 < length (now heads)) × Blank (now heads) ⌝ }
     ensures { λ r. ⌜ Names (now (p .entry)) (now (starts .entry)) (now (heads .exit)) (now (next .exit)) × (r ≡ true → Distinct (now (p .entry)) (now (starts .entry))) ⌝ }
@@ -80,7 +80,7 @@ fn link_ids(p: &[u8], starts: &[u16], heads: &mut [u16], next: &mut [u16]) -> bo
     distinct
 }
 
-// Whether every record but a device has an ID of its own (rules 1 and 2): all IDs are distinct, none is 65535, and a device has 0.
+// Whether every record other than a device has an ID of its own (rules 1 and 2): all IDs are distinct, none is 65535, and a device has 0.
 fn are_owned(p: &[u8], starts: &[u16], heads: &[u16], next: &[u16], distinct: bool) -> bool
     requires { ⌜ Names (now p) (now starts) (now heads) (now next) × (distinct ≡ true → Distinct (now p) (now starts)) ⌝ }
     ensures { λ r. ⌜ (r ≡ true → Owned (entriesOf (now (p .entry)) (now (starts .entry)))) ⌝ }
@@ -96,8 +96,8 @@ fn are_owned(p: &[u8], starts: &[u16], heads: &[u16], next: &[u16], distinct: bo
     kind_at(p, starts, first) == 1
 }
 
-// Lists the records by ID. Tells whether every record but a device has an ID of its own, so that nobody has to look at each; if not,
-// one of them may still have.
+// Lists the records by ID. If it returns true, every record other than a device has an ID of its own, and rules 1 and 2 need not be
+// tested for each of them; if false, some of them may still have one.
 pub fn name_ids(p: &[u8], starts: &[u16], heads: &mut [u16], next: &mut [u16]) -> bool
     requires { ⌜ Divided (now p) (now starts) × (length (now starts) ≤ length (now next)) × (0 < length (now heads)) × Blank (now heads) ⌝ }
     ensures { λ r. ⌜ Names (now (p .entry)) (now (starts .entry)) (now (heads .exit)) (now (next .exit)) × (r ≡ true → Owned (entriesOf (now (p .entry)) (now (starts .entry)))) ⌝ }
@@ -117,7 +117,7 @@ pub fn named_at(p: &[u8], starts: &[u16], heads: &[u16], next: &[u16], id: u16) 
     find(p, starts, starts.len() - 1, heads, next, id)
 }
 
-// Rule 2: whether an earlier record has the ID of record i. Its link says so.
+// Rule 2: whether an earlier record has the ID of record i. Its link is then 65535.
 pub fn repeats_id(p: &[u8], starts: &[u16], heads: &[u16], next: &[u16], i: usize) -> bool
     requires { ⌜ Names (now p) (now starts) (now heads) (now next) × (i + 1 < length (now starts)) ⌝ }
     ensures { λ r. ⌜ r ≡ not (eqb (firstOf (idAt (entriesOf (now (p .entry)) (now (starts .entry)))) (idAt (entriesOf (now (p .entry)) (now (starts .entry))) i) (length (entriesOf (now (p .entry)) (now (starts .entry))))) (suc i)) ⌝ }
@@ -155,7 +155,7 @@ pub fn is_data_at(p: &[u8], starts: &[u16], number: u16) -> bool
     records::view::is_data(p, starts[number as usize - 1])
 }
 
-// The number of the device element that the parent of the record with a number names, 0 where a chain ends.
+// The number of the device element that is the parent of the record with a number; 0 where the chain of parents ends.
 pub fn parent_at(p: &[u8], starts: &[u16], heads: &[u16], next: &[u16], number: u16) -> u16
     requires { ⌜ Names (now p) (now starts) (now heads) (now next) × (number < length (now starts)) ⌝ }
     ensures { λ r. ⌜ r ≡ parentOf (now (p .entry)) (entriesOf (now (p .entry)) (now (starts .entry))) number ⌝ }

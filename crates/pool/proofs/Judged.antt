@@ -1,4 +1,4 @@
--- What a walk's answer says of reading. Assumes nothing.
+-- What a walk's answer means for reading. Assumes nothing.
 use mathlib.Core.Path.{_≡_, refl, sym, ap, _∙_}
 use mathlib.Core.Logic.{⊎-elim}
 use mathlib.Core.Bool.{Bool, true, false, cond}

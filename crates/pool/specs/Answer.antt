@@ -4,7 +4,7 @@ pub use Rattle.records.specs.Answer.{Answer, answer}
 use Rattle.pool.specs.declared.Outcome.{Outcome}
 use Rattle.pool.specs.declared.Outcome.the-variants.{Records, Empty, TooLong, NoMark, Cut, LengthOver, TooMany, TableShort}
 
--- the number and the value that each outcome stands for: 0 and the count of records, or a refusal's number and its place
+-- the number and the value of each outcome: 0 and the count of records, or a refusal's number and its place
 abbrev pub answerOf : Outcome → Answer
 answerOf (Records count) = answer 0 count
 answerOf Empty = answer 1 0

@@ -19,7 +19,7 @@ pub record Entry : Type 0 where
   pub kind : ℕ
   pub id : ℕ
 
--- the numbers that an entry is written as, and how many they are
+-- how many numbers an entry is written as
 abbrev pub width : ℕ
 width = 4
 
@@ -32,51 +32,51 @@ abbrev pub flat : List Entry → List ℕ
 flat [] = []
 flat (e ∷ es) = numbers e ++ flat es
 
--- the entry of the record from a place up to another
+-- the entry of the record that starts at one place and ends before another
 abbrev pub entryAt : List ℕ → ℕ → ℕ → Entry
 entryAt p at end = record { start = at; size = end - at; kind = markNumber (markOf (three p at)); id = idOf p at }
 
--- a walk over the records: all of them, or what is told of the earliest bad one
+-- the result of a walk over the records: all of them, or the answer about the earliest bad one
 pub data Scan : Type 0 where
   records : List Entry → Scan
   refused : Answer → Scan
 
--- one record in front of what was found after it
+-- the result of a walk with one more record before it
 abbrev pub onto : Entry → Scan → Scan
 onto e (records es) = records (e ∷ es)
 onto e (refused a) = refused a
 
--- the walk goes on behind a record, or is refused as the record is
+-- one turn of the walk: it goes on after a record, or is refused with the number and place of what is wrong with it
 abbrev pub turn : (ℕ → Scan) → List ℕ → ℕ → Extent → Scan
 turn rest p at (Ends end) = onto (entryAt p at end) (rest end)
 turn rest p at NoMark = refused (extentAnswer at NoMark)
 turn rest p at Cut = refused (extentAnswer at Cut)
 turn rest p at (LengthOver place) = refused (extentAnswer at (LengthOver place))
 
--- what is found from a place on, or nothing where the pool ends there
+-- what is found from a place on, or no record if the pool ends there
 abbrev pub more : Bool → Scan → Scan
 more true s = s
 more false s = records []
 
--- the records from a place on. A record has at least its mark, so as many turns as the pool has bytes are enough
+-- the walk from a place on. No record is empty, so as many turns as the pool has bytes are enough
 unfoldable pub scanFrom : ℕ → List ℕ → ℕ → Scan
 scanFrom zero p at = records []
 scanFrom (suc turns) p at = more (ltb at (length p)) (turn (scanFrom turns p) p at (extentOf p at))
 
--- a whole pool, from its first byte on
+-- the walk over a whole pool
 unfoldable pub scanOf : List ℕ → Scan
 scanOf p = scanFrom (length p) p 0
 
--- the records of a pool, none where it is refused
+-- the records that a walk found, none if it was refused
 abbrev pub entriesIn : Scan → List Entry
 entriesIn (records es) = es
 entriesIn (refused a) = []
 
--- once all of the pool has been walked: too many records, then too short a table
+-- the answer after the walk: its refusal, or 6 for too many records, 7 for too short a table, or the count
 abbrev pub counted : ℕ → Scan → Answer
 counted room (refused a) = a
 counted room (records es) = cond (ltb 8192 (length es)) (answer 6 0) (cond (ltb room (length es)) (answer 7 (length es)) (answer 0 (length es)))
 
--- the size is judged before anything else; room is the number of entries that the table has
+-- what reading answers: the size is judged before anything else; room is the number of entries that the table has
 unfoldable pub readOf : List ℕ → ℕ → Answer
 readOf p room = cond (eqb (length p) 0) (answer 1 0) (cond (ltb 65535 (length p)) (answer 2 0) (counted room (scanOf p)))

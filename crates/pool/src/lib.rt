@@ -1,4 +1,4 @@
-// Reading a pool: whether it divides into records, and the working table. Every public function takes any bytes and any table.
+// Reading a pool: whether it divides into records, and where these start. `list_for` needs a list that is long enough for all records.
 use records::Extent;
 ghost use mathlib.Core.Path.{_≡_};
 ghost use Prim.Native.Nat.{_*_, _<_};
@@ -7,7 +7,7 @@ ghost use Rattle.pool.specs.Answer.{answerOf, recordsIn};
 ghost use Rattle.pool.specs.Reading.{scanOf, readOf};
 ghost use Rattle.pool.specs.Walk.{countFrom, Starts, Reaches, Listed};
 
-// What reading answers: the count of records, or why the pool is refused and where. The refusals stand in the order of their
+// What reading answers: the count of records, or why the pool is refused and where. The refusals are in the order of their
 // numbers, 1 to 7.
 pub enum Outcome {
     Records(usize),
@@ -20,7 +20,7 @@ pub enum Outcome {
     TableShort(usize),
 }
 
-// Walks over the records: their count, or the earliest bad one. It lists where each starts, and behind them where the last ends.
+// Walks over the records: answers their count, or the earliest bad one. It lists where each record starts, and then where the last ends.
 fn scan(p: &[u8], starts: &mut [u16]) -> Outcome
     requires { ⌜ (length (now p) < 65536) × (length (now p) < 12 * length (now starts)) ⌝ }
     ensures { λ r. ⌜ (answerOf r ≡ countFrom 0 (scanOf (now (p .entry)))) × Starts (now (p .entry)) (now (starts .exit)) ⌝ }
@@ -50,8 +50,8 @@ fn scan(p: &[u8], starts: &mut [u16]) -> Outcome
     Outcome::Records(n)
 }
 
-// Whether a pool is read, given how many entries a table has. Its records are listed by their starts, one walk for both, in a list
-// that reaches for every record. After a refusal the list is free.
+// Reads a pool for a table of `room` entries. In the same walk it lists the records by their starts, in a list that is long enough for
+// every record. After a refusal the list's contents are free.
 pub fn list_for(p: &[u8], room: usize, starts: &mut [u16]) -> Outcome
     requires { ⌜ Reaches (now starts) (now p) ⌝ }
     ensures { λ r. ⌜ (answerOf r ≡ readOf (now (p .entry)) room) × Listed (now (p .entry)) room (now (starts .exit)) ⌝ }
@@ -93,7 +93,7 @@ pub fn records_of(outcome: Outcome) -> usize
     }
 }
 
-// Document 01's number for what reading answers, 0 where the pool is read.
+// Document 01's number for what reading answers, 0 if the pool is read.
 pub fn number_of(outcome: Outcome) -> u32
     ensures { λ r. ⌜ r ≡ answerOf outcome .number ⌝ }
 {

@@ -1,5 +1,5 @@
-// Counting the faults of a pool that has been listed, in one pass: each record is looked at once, and its faults are put at once, so
-// that they come in order.
+// Counts the faults of a pool whose records have been listed, in one pass: each record is looked at once, and its faults are reported at
+// once, so that they come in order.
 use records::DeviceElement;
 ghost use mathlib.Core.Path.{_≡_};
 ghost use mathlib.Core.Bool.{true, false, not, _&&_, _||_};
@@ -17,21 +17,21 @@ ghost use Rattle.naming.specs.Chained.{Names, Owned};
 ghost use Rattle.rules.specs.Table.{repeats, elementKey, breachesIn};
 ghost use Rattle.pool_breaches.specs.Passing.{Completes, BreachesMarked, Sighted, Added};
 
-// After some records: how many faults were counted, and whether rules 8 and 9 are now read off marks under the records.
+// The state after some records: how many faults were counted, and whether all records have been marked for rules 8 and 9.
 struct Passed {
     n: usize,
     full: bool,
 }
 
-// Whether what has been noted so far does not tell rules 8 and 9 of a device element: its number is over 4095, or its parent, of
-// which number and kind are given, is a device element that does not stand before it.
+// Whether rules 8 and 9 of a device element cannot be decided by what has been noted so far: its number is over 4095, or its parent
+// (given by record number and kind) is a device element that does not come before it.
 fn is_unusual(element: u16, parent: u16, kind: u16, i: usize) -> bool
     ensures { λ r. ⌜ r ≡ (ltb 4095 element || (eqb kind 2 && ltb i parent)) ⌝ }
 {
     (4095 < element) | ((kind == 2) & (i < parent as usize))
 }
 
-// Marks every record that breaks rule 8 or 9. Rarely called: the lists that it takes are not those of every check.
+// Marks every record that breaks rule 8 or 9. It is rarely called, and needs lists that most checks do not need.
 fn mark_all(
     p: &[u8],
     starts: &[u16],
@@ -47,7 +47,7 @@ fn mark_all(
     chains::mark_endless(p, starts, heads, next, endless);
 }
 
-// Has all records marked where that is now wanted for the first time. Tells whether they are marked.
+// Has all records marked, if that is needed now and not done yet. Returns whether they are marked.
 fn settle(
     p: &[u8],
     starts: &[u16],
@@ -71,7 +71,7 @@ fn settle(
     false
 }
 
-// Rule 8: whether an earlier device element has the number of record i, which is noted.
+// Rule 8: whether an earlier device element has the element number of record i. The number is noted unless all records are marked.
 fn is_again(numbers: &mut [u8], again: &[u8], i: usize, element: u16, full: bool) -> bool
     requires { ⌜ (i < 8 * length (now again)) × (full ≡ false → element < 8 * length (now numbers)) ⌝ }
     ensures { λ r. ⌜ (full ≡ true → r ≡ bitAt (now (again .entry)) i) × (full ≡ false → (r ≡ bitAt (now (numbers .entry)) element) × ((j : ℕ) → j < 8 * length (now (numbers .entry)) → bitAt (now (numbers .exit)) j ≡ (eqb j element || bitAt (now (numbers .entry)) j))) ⌝ }
@@ -93,16 +93,16 @@ fn is_endless(endless: &[u8], i: usize, full: bool) -> bool
     false
 }
 
-// What rules 8 and 9 find in a device element, and whether they are now read off marks under the records.
+// Whether a device element breaks rules 8 and 9, and whether all records are now marked.
 struct Settled {
     again: bool,
     endless: bool,
     full: bool,
 }
 
-// Rules 8 and 9 of record i, a device element: its fields, the number of the record that its parent names and that one's kind are given. As
-// long as all are usual its number is noted, and that is all. All records are marked before rule 8 is judged where the number is over 4095,
-// and else before rule 9: two calls, so that what marks them keeps a frame of its own.
+// Rules 8 and 9 of record i, a device element with fields e; parent is the number of the record that its parent names, and kind that
+// record's kind. In the usual case its element number is noted, and that is all. If the number is over 4095, all records are marked before
+// rule 8 is judged, else before rule 9. There are two calls for this, so that the compiler gives `mark_all` a stack frame of its own.
 fn settle_element(
     p: &[u8],
     starts: &[u16],
@@ -147,7 +147,7 @@ fn settle_element(
     }
 }
 
-// Record i, a device element.
+// The faults of record i, a device element.
 fn pass_element(
     p: &[u8],
     starts: &[u16],
@@ -202,7 +202,7 @@ fn pass_element(
     }
 }
 
-// Record i.
+// The faults of record i.
 fn pass(
     p: &[u8],
     starts: &[u16],
@@ -253,7 +253,7 @@ fn pass(
     Passed { n, full }
 }
 
-// The faults of all records, behind those of the whole pool. The first device's number is given, 0 where there is none.
+// The faults of all records, after those of the whole pool. device is the number of the first device, 0 if there is none.
 fn put_records(
     p: &[u8],
     starts: &[u16],
@@ -298,8 +298,8 @@ fn put_records(
     passed.n
 }
 
-// The faults of a pool whose IDs have been listed, with marks for as many records as it has. It is given whether all records but devices
-// are known to have IDs of their own.
+// The faults of a pool whose IDs have been listed, with room for a mark for each record in `again` and `endless`. owned says whether it is
+// known that every record other than a device has an ID of its own.
 pub fn put_all(
     p: &[u8],
     starts: &[u16],
@@ -333,7 +333,7 @@ pub fn put_all(
     )
 }
 
-// Lists for a pool of up to 1,023 records.
+// Counts the faults with lists for a pool of up to 1,023 records.
 fn count_short(p: &[u8], starts: &[u16], faults: &mut [u16]) -> usize
     requires { ⌜ Divided (now p) (now starts) × (length (now starts) ≤ 1024) ⌝ }
     ensures { λ r. ⌜ Emits (now (faults .entry)) 0 (breachesIn (now (p .entry)) (entriesOf (now (p .entry)) (now (starts .entry)))) (now (faults .exit)) r ⌝ }
@@ -355,7 +355,7 @@ fn count_short(p: &[u8], starts: &[u16], faults: &mut [u16]) -> usize
     )
 }
 
-// Lists for every pool.
+// Counts the faults with lists for every pool.
 fn count_long(p: &[u8], starts: &[u16], faults: &mut [u16]) -> usize
     requires { ⌜ Divided (now p) (now starts) ⌝ }
     ensures { λ r. ⌜ Emits (now (faults .entry)) 0 (breachesIn (now (p .entry)) (entriesOf (now (p .entry)) (now (starts .entry)))) (now (faults .exit)) r ⌝ }
@@ -377,8 +377,8 @@ fn count_long(p: &[u8], starts: &[u16], faults: &mut [u16]) -> usize
     )
 }
 
-// Counts and puts the faults of a pool that has been listed, with lists of the pool's size: clearing long ones would take most of
-// the time that a short one takes.
+// Counts the faults of a pool whose records have been listed and writes the first ones to the buffer, with lists of one of two lengths:
+// clearing the long lists would take most of the time that a short pool takes.
 pub fn count_faults(p: &[u8], starts: &[u16], faults: &mut [u16]) -> usize
     requires { ⌜ Divided (now p) (now starts) ⌝ }
     ensures { λ r. ⌜ Emits (now (faults .entry)) 0 (breachesIn (now (p .entry)) (entriesOf (now (p .entry)) (now (starts .entry)))) (now (faults .exit)) r ⌝ }

@@ -1,4 +1,4 @@
--- Parts laid one after the other. Assumes nothing.
+-- Parts written one after the other. Assumes nothing.
 use mathlib.Core.Path.{_≡_, refl, ap, subst, _∙_}
 use mathlib.Core.List.{List, [], _++_}
 use Prim.Native.Nat.{ℕ, _+_, _≤_}

@@ -20,12 +20,12 @@ unfoldable pub faultLines : List Fault → List ℕ
 faultLines [] = []
 faultLines (f ∷ fs) = faultLine (f .number) (f .rule) (f .item) ++ faultLines fs
 
--- what is said of the faults: that there are none, or the first 1,024
+-- the lines about faults: that there are none, or the first 1,024
 unfoldable pub findings : List Fault → List ℕ
 findings [] = acceptedLine
 findings (f ∷ fs) = faultLines (take 1024 (f ∷ fs))
 
--- of a pool that is read, the count of its records, a line for each, and what is said of its faults
+-- the listing of a pool that is read: the count of its records, a line for each, and the lines about faults
 unfoldable pub readListing : List Entry → List Fault → List ℕ
 readListing es fs = countLine (length es) ++ recordLines es ++ findings fs
 

@@ -1,4 +1,4 @@
--- Parts of a listing laid one after the other, for the private functions that do it: no public contract rests on these. Definitions only.
+-- Parts of a listing, written one after the other, for private functions: no public contract rests on these. Definitions only.
 use Prim.Native.Nat.{ℕ, zero, suc, _+_}
 use mathlib.Core.Path.{_≡_}
 use mathlib.Core.List.{List, [], _∷_}
@@ -6,7 +6,7 @@ use lib.ListN.{length, getD, drop}
 use lib.Seq.{sets}
 use Rattle.faults.specs.Faults.{Fault, fault, width, written}
 
--- bytes were copied into a buffer at a place, and the place after them is given
+-- bytes were copied into a buffer at a place, and next is the place after them
 pub record Adds (before : List ℕ) (at : ℕ) (bs after : List ℕ) (next : ℕ) : Type 0 where
   pub laid : after ≡ sets before at bs
   pub place : next ≡ at + length bs
@@ -16,7 +16,7 @@ unfoldable pub faultsIn : ℕ → List ℕ → List Fault
 faultsIn zero buffer = []
 faultsIn (suc n) buffer = fault (getD buffer 0 0) (getD buffer 1 0) (getD buffer 2 0) ∷ faultsIn n (drop width buffer)
 
--- a buffer of 1,024 entries holds the first of these faults, as checking writes them
+-- a buffer with room for 1,024 faults holds the first of these faults, as checking writes them
 pub record Held (buffer : List ℕ) (fs : List Fault) : Type 0 where
   pub before : List ℕ
   pub long : length before ≡ 3072

@@ -1,4 +1,4 @@
-// The listing of a pool, laid into lent memory: the lines that the lister prints, stated by the pool's bytes alone.
+// The listing of a pool, written into lent memory: the lines that the lister prints, defined by the pool's bytes alone.
 use records::view;
 ghost use Prim.Native.Nat.{_+_, _*_, _≤_};
 ghost use mathlib.Core.Path.{_≡_};
@@ -10,7 +10,7 @@ ghost use Rattle.pool.specs.Walk.{Divided, entriesOf};
 ghost use Rattle.pool_listing.specs.Listing.{recordLines, faultLines, findings, listingOf};
 ghost use Rattle.pool_listing.specs.Parts.{Adds, Held, faultsIn};
 
-// The line of each record, by a list of their starts: each ends where the next one starts. A line has at most 32 bytes.
+// Writes a line for each record, by a list of their starts: each ends where the next one starts. A line has at most 32 bytes.
 fn put_records(p: &[u8], starts: &[u16], out: &mut [u8], from: usize) -> usize
     requires { ⌜ Divided (now p) (now starts) × (from + 32 * length (now starts) ≤ length (now out) + 32) ⌝ }
     ensures { λ r. ⌜ Adds (now (out .entry)) from (recordLines (entriesOf (now (p .entry)) (now (starts .entry)))) (now (out .exit)) r × (r + 32 ≤ from + 32 * length (now (starts .entry))) ⌝ }
@@ -34,7 +34,7 @@ fn put_records(p: &[u8], starts: &[u16], out: &mut [u8], from: usize) -> usize
     at
 }
 
-// The line of each of the first n faults. A line has at most 24 bytes.
+// Writes a line for each of the first n faults. A line has at most 24 bytes.
 fn put_faults(faults: &[u16], n: usize, out: &mut [u8], from: usize) -> usize
     requires { ⌜ (3 * n ≤ length (now faults)) × (from + 24 * n ≤ length (now out)) ⌝ }
     ensures { λ r. ⌜ Adds (now (out .entry)) from (faultLines (faultsIn n (now (faults .entry)))) (now (out .exit)) r × (r ≤ from + 24 * n) ⌝ }
@@ -49,7 +49,7 @@ fn put_faults(faults: &[u16], n: usize, out: &mut [u8], from: usize) -> usize
     at
 }
 
-// What checking found, given how many faults there are: the buffer has the first 1,024.
+// Writes what checking found, given how many faults there are: the buffer has the first 1,024.
 fn put_findings(faults: &[u16], found: usize, out: &mut [u8], from: usize) -> usize
     requires { ⌜ (length (now faults) ≡ 3072) × (from + 24576 ≤ length (now out)) ⌝ }
     ensures { λ r. ⌜ ((fs : List Fault) → Held (now (faults .entry)) fs → found ≡ length fs → Adds (now (out .entry)) from (findings fs) (now (out .exit)) r) × (r ≤ from + 24576) ⌝ }
@@ -63,7 +63,7 @@ fn put_findings(faults: &[u16], found: usize, out: &mut [u8], from: usize) -> us
     put_faults(faults, 1024, out, from)
 }
 
-// Lists a pool by memory for the starts of its records, of which there is room for every pool's, and for its first 1,024 faults.
+// Lists a pool, with a list that is long enough for the starts of every pool's records, and a buffer for its first 1,024 faults.
 fn list_by(p: &[u8], starts: &mut [u16], faults: &mut [u16], out: &mut [u8]) -> usize
     requires { ⌜ (length (now starts) ≡ 5462) × (length (now faults) ≡ 3072) × (90125 ≤ length (now out)) ⌝ }
     ensures { λ r. ⌜ Adds (now (out .entry)) 0 (listingOf (now (p .entry))) (now (out .exit)) r × (r ≤ 90125) ⌝ }
@@ -81,8 +81,8 @@ fn list_by(p: &[u8], starts: &mut [u16], faults: &mut [u16], out: &mut [u8]) -> 
     put_findings(faults, value, out, next)
 }
 
-// Lays the listing of a pool at the start of a buffer, and gives its length. No listing is longer than 90,125 bytes: the line of the
-// count has at most 13, and there are at most 2,048 records, of 32 each, and 1,024 faults, of 24.
+// Writes the listing of a pool to the start of a buffer, and returns its length. No listing is longer than 90,125 bytes: the line for the
+// count has at most 13, and there are at most 2,048 records, with 32 each, and 1,024 faults, with 24.
 pub fn list(p: &[u8], out: &mut [u8]) -> usize
     requires { ⌜ 90125 ≤ length (now out) ⌝ }
     ensures { λ r. ⌜ (now (out .exit) ≡ sets (now (out .entry)) 0 (listingOf (now (p .entry)))) × (r ≡ length (listingOf (now (p .entry)))) × (r ≤ length (now (out .exit))) ⌝ }

@@ -1,4 +1,4 @@
--- The bits that the logic's rounding gives: for a whole number of the least steps of an f64 those of the nearest one. Assumes nothing.
+-- The bits that the logic's rounding gives for a multiple of the least step of an f64: those of the nearest f64. Assumes nothing.
 use mathlib.Core.Path.{_≡_, refl, sym, ap, subst, _∙_}
 use mathlib.Core.Logic.{⊎-elim}
 use mathlib.Core.Bool.{Bool, cond}

@@ -1,4 +1,4 @@
--- What the logic's rounding keeps of a number is the nearest multiple of a unit. Assumes nothing.
+-- The logic's rounding gives the nearest multiple of a unit. Assumes nothing.
 use mathlib.Core.Path.{_≡_, subst}
 use mathlib.Core.Logic.{⊎-elim}
 use mathlib.Core.Bool.{not}

@@ -1,4 +1,4 @@
--- What the test of a scale says. Assumes nothing.
+-- What the test of a scale means. Assumes nothing.
 use mathlib.Core.Path.{_≡_, refl, sym, subst}
 use mathlib.Core.Bool.{true, false, not}
 use Prim.Native.Nat.{_≤_}

@@ -1,4 +1,4 @@
--- The sum of two numbers of 32 bits: one of 64, which an f64 holds exactly. Assumes nothing.
+-- The sum of two numbers of 32 bits fits into 64, and an f64 holds it exactly. Assumes nothing.
 use mathlib.Core.Path.{_≡_}
 use mathlib.Core.Bool.{Bool, true, false, cond}
 use Prim.Native.Nat.{ℕ, suc, _+_, _-_, _^_, _<_, _≤_}

@@ -1,4 +1,4 @@
--- The bits are fixed: two that are nearest to one number are the same. Assumes nothing.
+-- The bits are unique: two bit patterns that are nearest to the same number are equal. Assumes nothing.
 use mathlib.Core.Path.{_≡_, subst}
 use mathlib.Core.Logic.{inl, inr}
 use Prim.Native.Nat.{ℕ, suc, _+_, _*_, _%_, _^_, _≤_, _<_}

@@ -1,4 +1,4 @@
--- Worked displays: antt computes each. Assumes nothing.
+-- Worked displayed values, each by computation. Assumes nothing.
 use mathlib.Core.Path.{_≡_, refl}
 use Prim.Native.Nat.{ℕ}
 use lib.IntN.{ℤ, pos, negsuc}

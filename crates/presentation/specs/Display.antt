@@ -10,11 +10,11 @@ use Rattle.presentation.specs.declared.Presentation.{Presentation}
 use Rattle.presentation.specs.declared.Displayed.{Displayed}
 use Rattle.presentation.specs.declared.Displayed.the-variants.{Value, Refused}
 
--- the scale's bits, as a number, lie between the two ends; those of every NaN lie outside
+-- the scale's bits, as a number, are within the two limits; those of every NaN are outside
 unfoldable pub inRange : Float → Bool
 inRange x = not (isNan x) && (leb 0x322BCC77 (toBits binary32 x) && leb (toBits binary32 x) 0x4CBEBC20)
 
--- an answer in document 01's words: a number, 0 for none, and a value
+-- an answer in document 01's terms: the number of the refusal, or 0, and a value
 pub record Answer : Type 0 where
   pub number : ℕ
   pub value : Float
@@ -31,7 +31,7 @@ shownOf v p =
     (record { number = 0; value = mul binary64 (ofInt binary64 (v +ℤ p .offset)) (p .scale) })
     (record { number = 50; value = ofBits binary64 0 })
 
--- the answer is that one, and a value that is shown has the bits of the f64 nearest to the exact product
+-- the answer is `shownOf`, and a value that is shown has the bits of the f64 nearest to the exact product
 pub record Shown (v : ℤ) (p : Presentation) (a : Answer) : Type 0 where
   pub answer : a ≡ shownOf v p
   pub bits : a .number ≡ 0 → ProductBits (v +ℤ p .offset) (toBits binary32 (p .scale)) (toBits binary64 (a .value))

@@ -1,4 +1,4 @@
--- What is claimed of the displayed value beside its contract, over numbers alone. Definitions only.
+-- Claims about the displayed value in addition to its contract, over whole numbers alone. Definitions only.
 use Prim.Native.Nat.{ℕ, _^_, _≤_, _<_}
 use mathlib.Core.Path.{_≡_}
 use mathlib.Core.Logic.{_↔_, _⊎_}

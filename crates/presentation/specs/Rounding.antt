@@ -1,4 +1,4 @@
--- Rounding to an f64 in whole numbers alone: no float stands in it. Definitions only.
+-- Rounding to an f64, defined with whole numbers alone, without floats. Definitions only.
 use Prim.Native.Nat.{ℕ, _+_, _*_, _/_, _%_, _^_, _≤_, _<_}
 use mathlib.Core.Path.{_≡_}
 use mathlib.Core.Logic.{_⊎_}
@@ -6,14 +6,14 @@ use mathlib.Core.Bool.{cond}
 use lib.IntN.{ℤ, natAbs}
 use lib.Signed.{nonNeg}
 
--- q times u is the multiple of u nearest to n, and midway between two of them q is even
+-- q times u is the multiple of u nearest to n; if n is midway between two multiples, q is even
 pub record NearestMultiple (n u q : ℕ) : Type 0 where
   pub low : 2 * (q * u) ≤ 2 * n + u
   pub high : 2 * n ≤ 2 * (q * u) + u
   pub even : (2 * (q * u) ≡ 2 * n + u) ⊎ (2 * n ≡ 2 * (q * u) + u) → q % 2 ≡ 0
 
 -- The bits, sign clear, of the f64 nearest to n times 2 ^ -1074, the least step between two f64.
--- Just so many binary digits are dropped that 53 are enough. The exponent's field counts them, and the leading one of 53 digits adds 1 to it.
+-- Only as many binary digits are dropped as leave at most 53. The exponent field counts them, and the leading 1 of 53 digits adds 1 to it.
 pub record NearestBits (n bits : ℕ) : Type 0 where
   pub dropped : ℕ
   pub kept : ℕ
@@ -22,11 +22,11 @@ pub record NearestBits (n bits : ℕ) : Type 0 where
   pub nearest : NearestMultiple n (2 ^ dropped) kept
   pub fields : bits ≡ dropped * 2 ^ 52 + kept
 
--- The magnitude of z times a normal f32 above 0 by its bits, in steps of 2 ^ -1074: with the field e the f32 is its 24 digits times 2 ^ (e - 150).
+-- |z| times a normal f32 above 0, given by its bits, in steps of 2 ^ -1074: with exponent field e it is its 24 digits times 2 ^ (e - 150).
 abbrev pub exactProduct : ℤ → ℕ → ℕ
 exactProduct z scale = natAbs z * ((2 ^ 23 + scale % 2 ^ 23) * 2 ^ (scale / 2 ^ 23 + 924))
 
--- the bits of the f64 nearest to the exact product, with the sign of z; a product of 0 has it clear
+-- the bits of the f64 nearest to the exact product, with the sign of z; for a product of 0 the sign bit is clear
 pub record ProductBits (z : ℤ) (scale bits : ℕ) : Type 0 where
   pub magnitude : ℕ
   pub nearest : NearestBits (exactProduct z scale) magnitude

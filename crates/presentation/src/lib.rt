@@ -16,8 +16,8 @@ pub enum Displayed {
     Refused,
 }
 
-// The scale is judged on its bits. A NaN, which alone differs from itself, goes first: the logic has no bits for it, and none of
-// its patterns is within the range.
+// The scale is judged by its bits. A NaN, the only value that differs from itself, is excluded first: the logic has no bits for it, and
+// none of its bit patterns is within the range.
 fn is_in_range(scale: f32) -> bool
     ensures { λ r. ⌜ r ≡ inRange scale ⌝ }
 {
@@ -36,7 +36,7 @@ fn exact_sum(value: i32, offset: i32) -> f64
     sum as f64
 }
 
-// Both factors are exact, so that the product alone rounds.
+// The displayed value. Both factors are exact, so that only the product is rounded.
 pub fn display(value: i32, presentation: Presentation) -> Displayed
     ensures { λ r. ⌜ Shown value presentation (answerOf r) ⌝ }
 {
@@ -54,7 +54,7 @@ pub fn display(value: i32, presentation: Presentation) -> Displayed
     Displayed::Value(sum * factor)
 }
 
-// Document 01's number, 0 where a value is shown.
+// Document 01's number, 0 if a value is shown.
 pub fn number_of(displayed: Displayed) -> u32
     ensures { λ r. ⌜ r ≡ answerOf displayed .number ⌝ }
 {
@@ -64,7 +64,7 @@ pub fn number_of(displayed: Displayed) -> u32
     }
 }
 
-// The value, 0 where none is shown.
+// The value, 0 if none is shown.
 pub fn value_of(displayed: Displayed) -> f64
     ensures { λ r. ⌜ r ≡ answerOf displayed .value ⌝ }
 {

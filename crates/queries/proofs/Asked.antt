@@ -1,4 +1,4 @@
--- What an accepted pool and the list of its records say to a query. Assumes nothing.
+-- What a query answers for an accepted pool and the list of its records. Assumes nothing.
 use mathlib.Core.Path.{_≡_, refl, sym, ap, subst, _∙_}
 use mathlib.Core.List.{List}
 use Prim.Native.Nat.{ℕ, zero, suc, _+_, _-_, _<_, _≤_}

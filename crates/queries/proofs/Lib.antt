@@ -1,4 +1,4 @@
--- What belongs to no one function.
+-- Laws that are not about a single function.
 pub mod Accepted
 pub mod Whole
 pub mod Asked

@@ -1,4 +1,4 @@
--- For the contracts of functions inside: no contract of a call rests on these. Definitions only.
+-- For the contracts of internal functions: no contract of a call rests on these. Definitions only.
 use Prim.Native.Nat.{ℕ, _≤_}
 use mathlib.Core.Path.{_≡_}
 use mathlib.Core.Bool.{cond}
@@ -15,7 +15,7 @@ use Rattle.queries.specs.Queries.{carrier, textOfRecord, padded}
 use Rattle.queries.specs.declared.Place.{Place}
 use Rattle.queries.specs.declared.DeviceLabels.{DeviceLabels}
 
--- a text that is looked for among the records of a pool, 28 where none has the ID; its place lies within the pool
+-- the answer to a query for a text among the records of a pool: 28 if none has the ID; its place lies within the pool
 pub record FindsAmong (p : List ℕ) (es : List Entry) (id : ℕ) (r : Place) : Type 0 where
   pub number : r .number ≡ cond (eqb (carrier es id) 0) 28 0
   pub from : r .from ≡ textOfRecord p es (carrier es id) .from
@@ -23,8 +23,8 @@ pub record FindsAmong (p : List ℕ) (es : List Entry) (id : ℕ) (r : Place) : 
   pub ordered : r .from ≤ r .to
   pub within : r .to ≤ length p
 
--- a pool that has been checked for a table of so many entries: the verdict on it, and the list that the check has listed the
--- records in
+-- a pool that has been checked for a table of room entries: v is the verdict on it, and starts the list of records that the check has
+-- made
 pub record CheckedBy (p : List ℕ) (room : ℕ) (starts : List ℕ) (v : Verdict) : Type 0 where
   pub listed : Listed p room starts
   pub verdict : verdictOf v ≡ checkOf p room

@@ -1,4 +1,4 @@
--- What may be asked of an accepted pool, its texts and labels: document 01, the last paragraph of "The rule table".
+-- Queries of an accepted pool, for its texts and labels: document 01, the last paragraph of "The rule table".
 -- Definitions only.
 use Prim.Native.Nat.{ℕ, zero, suc, _-_, _≤_}
 use mathlib.Core.Path.{_≡_}
@@ -17,21 +17,21 @@ use Rattle.checker.specs.Checking.{checkOf}
 use Rattle.queries.specs.declared.Place.{Place}
 use Rattle.queries.specs.declared.DeviceLabels.{DeviceLabels}
 
--- why a pool is not accepted, 0 where it is: reading's refusal, or 24 where checking counts a fault
+-- why a pool is not accepted, 0 if it is: reading's refusal, or 24 if checking counts a fault
 abbrev pub refusalIn : Answer → ℕ
 refusalIn a = cond (eqb (a .number) 0) (cond (eqb (a .value) 0) 0 24) (a .number)
 
--- the same of a pool, with a table of so many entries
+-- the same for a pool, with a table of room entries
 unfoldable pub acceptance : List ℕ → ℕ → ℕ
 acceptance p room = refusalIn (checkOf p room)
 
 -- ---- texts
 
--- no bytes, at place 0
+-- a part without bytes, at place 0
 abbrev pub nowhere : Span
 nowhere = record { from = 0; to = 0 }
 
--- a record's text by the number of its kind: the designator, of a value presentation the unit text
+-- a record's text, by the number of its kind: the designator, or the unit text of a value presentation
 unfoldable pub textIn : List ℕ → ℕ → ℕ → Span
 textIn p kind at =
     cond (eqb kind 1) (deviceOf p at .designator)
@@ -49,12 +49,12 @@ abbrev pub textOfRecord : List ℕ → List Entry → ℕ → Span
 textOfRecord p es zero = nowhere
 textOfRecord p es (suc i) = textIn p (kindAt es i) (startAt es i)
 
--- what a text query answers: 0, or why the pool is not accepted, or 28 where no record has the ID
+-- what a text query answers: 0, or why the pool is not accepted, or 28 if no record has the ID
 unfoldable pub textNumber : List ℕ → ℕ → ℕ → ℕ
 textNumber p room id =
     cond (eqb (acceptance p room) 0) (cond (eqb (carrier (entriesIn (scanOf p)) id) 0) 28 0) (acceptance p room)
 
--- where the text stands in the pool; a refusal has no bytes, at place 0
+-- the place of the text in the pool; with a refusal, a part without bytes at place 0
 unfoldable pub textSpan : List ℕ → ℕ → ℕ → Span
 textSpan p room id =
     cond (eqb (acceptance p room) 0) (textOfRecord p (entriesIn (scanOf p)) (carrier (entriesIn (scanOf p)) id)) nowhere
@@ -63,11 +63,11 @@ textSpan p room id =
 unfoldable pub textOf : List ℕ → ℕ → ℕ → List ℕ
 textOf p room id = partOf p (textSpan p room id)
 
--- the bytes that an answer stands for
+-- the span of an answer
 abbrev pub spanOf : Place → Span
 spanOf r = record { from = r .from; to = r .to }
 
--- a query's answer as a place, which lies within the pool whatever the answer is
+-- the answer to a text query: number and place; the place lies within the pool, whatever the answer is
 pub record Finds (p : List ℕ) (room id : ℕ) (r : Place) : Type 0 where
   pub number : r .number ≡ textNumber p room id
   pub from : r .from ≡ textSpan p room id .from
@@ -77,49 +77,49 @@ pub record Finds (p : List ℕ) (room id : ℕ) (r : Place) : Type 0 where
 
 -- ---- labels
 
--- the device: an accepted pool has one, and it is the first record of kind 1
+-- where the record with a number from 1 starts, 0 for number 0
 abbrev pub startOf : List Entry → ℕ → ℕ
 startOf es zero = 0
 startOf es (suc i) = startAt es i
 
--- the fields of the first device
+-- the fields of the device, which is the first record of kind 1: an accepted pool has one
 unfoldable pub deviceIn : List ℕ → List Entry → Device
 deviceIn p es = deviceOf p (startOf es (firstOf (kindAt es) 1 (length es)))
 
--- bytes at the start of so many, zeros behind them
+-- bytes padded with zeros to w bytes
 abbrev pub padded : ℕ → List ℕ → List ℕ
 padded w t = t ++ replicate (w - length t) 0
 
--- a label's bytes of a pool that is accepted, none of another
+-- a label's bytes if the pool is accepted (number 0), else no bytes
 abbrev pub ifAccepted : ℕ → List ℕ → List ℕ
 ifAccepted zero t = t
 ifAccepted (suc number) t = []
 
--- labels are refused as a pool is not accepted
+-- the labels are refused if the pool is not accepted, with the same number
 abbrev pub labelsNumber : List ℕ → ℕ → ℕ
 labelsNumber p room = acceptance p room
 
--- seven bytes, zeros where the call is refused
+-- the structure label: seven bytes, zeros if the call is refused
 unfoldable pub structureLabel : List ℕ → ℕ → List ℕ
 structureLabel p room = padded 7 (ifAccepted (labelsNumber p room) (partOf p (deviceIn p (entriesIn (scanOf p)) .structure)))
 
--- the same of the localization label
+-- the localization label, likewise
 unfoldable pub localizationLabel : List ℕ → ℕ → List ℕ
 localizationLabel p room = padded 7 (ifAccepted (labelsNumber p room) (partOf p (deviceIn p (entriesIn (scanOf p)) .localization)))
 
--- the extended label has as many bytes as its count says, which is the device's own length byte
+-- the bytes of the extended label that are used: as many as the device's length byte says
 unfoldable pub extendedText : List ℕ → ℕ → List ℕ
 extendedText p room = ifAccepted (labelsNumber p room) (partOf p (deviceIn p (entriesIn (scanOf p)) .extended))
 
--- the extended label in 32 bytes
+-- the extended label in 32 bytes, the unused ones 0
 unfoldable pub extendedLabel : List ℕ → ℕ → List ℕ
 extendedLabel p room = padded 32 (extendedText p room)
 
--- how many of them are used
+-- how many bytes of the extended label are used
 unfoldable pub extendedCount : List ℕ → ℕ → ℕ
 extendedCount p room = length (extendedText p room)
 
--- an answer with the labels, every part of it
+-- the answer to a query for the labels, field by field
 pub record Labelled (p : List ℕ) (room : ℕ) (r : DeviceLabels) : Type 0 where
   pub number : r .number ≡ labelsNumber p room
   pub structure : r .structure ≡ structureLabel p room

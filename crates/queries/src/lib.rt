@@ -1,5 +1,5 @@
-// What may be asked of an accepted pool: a record's text by its ID, and the labels of the device. The pool has been checked, for a
-// table of so many entries.
+// Queries of an accepted pool: a record's text by its ID, and the labels of the device. The pool has been checked, for a table of
+// `room` entries.
 use checker::Verdict;
 use records::Span;
 ghost use mathlib.Core.Path.{_≡_};
@@ -13,7 +13,7 @@ ghost use Rattle.checker.specs.Checking.{verdictOf};
 ghost use Rattle.queries.specs.Queries.{refusalIn, textIn, spanOf, carrier, Finds, Labelled};
 ghost use Rattle.queries.specs.Parts.{FindsAmong, CheckedBy, LabelledBy};
 
-// Where a text stands in the pool, or the number of a refusal with zeros.
+// The place of a text in the pool, or the number of a refusal with zeros.
 pub struct Place {
     pub number: u32,
     pub from: usize,
@@ -30,7 +30,7 @@ pub struct DeviceLabels {
     pub extended_length: u16,
 }
 
-// Why a pool that has been checked is not accepted, 0 where it is.
+// Why a pool that has been checked is not accepted, as a number; 0 if it is accepted.
 pub fn refusal(verdict: Verdict) -> u32
     ensures { λ r. ⌜ r ≡ refusalIn (verdictOf verdict) ⌝ }
 {
@@ -82,7 +82,7 @@ fn text_in(p: &[u8], kind: u16, at: u16) -> Span
     Span { from: 0, to: 0 }
 }
 
-// Finds a text among the records of a pool: its place lies within the pool, also where it is empty.
+// Finds a text among the records of a pool. Its place lies within the pool, also if the text is empty.
 fn find_among(p: &[u8], starts: &[u16], id: u32) -> Place
     requires { ⌜ Divided (now p) (now starts) ⌝ }
     ensures { λ r. ⌜ FindsAmong (now (p .entry)) (entriesOf (now (p .entry)) (now (starts .entry))) id r ⌝ }
@@ -104,8 +104,8 @@ fn find_among(p: &[u8], starts: &[u16], id: u32) -> Place
     }
 }
 
-// Finds a text in a pool that has been checked, by the list that the check has listed the records in. No entry point, so it may ask
-// that the verdict and the list are the pool's.
+// Finds a text in a pool that has been checked, by the list of records that the check has made. It is not an entry point, so it may
+// require that the verdict and the list belong to the pool.
 pub fn find_in(p: &[u8], room: usize, starts: &[u16], verdict: Verdict, id: u32) -> Place
     requires { ⌜ CheckedBy (now p) room (now starts) verdict ⌝ }
     ensures { λ r. ⌜ Finds (now (p .entry)) room id r ⌝ }
@@ -122,7 +122,7 @@ pub fn find_in(p: &[u8], room: usize, starts: &[u16], verdict: Verdict, id: u32)
     find_among(p, &starts[..end], id)
 }
 
-// A text that was looked for, as a slice of the pool that was lent. The number tells a refusal from a text without bytes.
+// The text at a place that was found, as a slice of the pool. The number tells a refusal from an empty text.
 pub fn text_at<'a>(p: &'a [u8], place: Place, number: &mut u32) -> &'a [u8]
     ensures { λ r. ⌜ (now r ≡ partOf (now (p .entry)) (spanOf place)) × (now (number .exit) ≡ place .number) × (ptr r ≡ placeIn (p .entry) (startIn (now (p .entry)) (spanOf place))) ⌝ }
 {
@@ -154,8 +154,8 @@ fn labels_at(p: &[u8], at: u16) -> DeviceLabels
     }
 }
 
-// The labels by the list that the check has listed the records in, as for a text: by value, with the count of the extended label's
-// bytes. An accepted pool has a device, so no test looks for its absence.
+// The labels, by value, with the count of the extended label's bytes; the list of records is that of the check, as for a text. An
+// accepted pool has a device, so its absence is not tested.
 pub fn labels_in(p: &[u8], room: usize, starts: &[u16], verdict: Verdict) -> DeviceLabels
     requires { ⌜ CheckedBy (now p) room (now starts) verdict ⌝ }
     ensures { λ r. ⌜ Labelled (now (p .entry)) room r ⌝ }

@@ -1,4 +1,4 @@
--- Texts and labels of an accepted pool are the parts that its records are written of. Assumes nothing.
+-- Texts and labels of an accepted pool are the parts that its records consist of. Assumes nothing.
 use mathlib.Core.Path.{_≡_, refl, sym, ap, subst, _∙_}
 use mathlib.Core.Bool.{Bool, true, false, cond, true≢false}
 use mathlib.Core.Logic.{_↔_, ⊎-elim, inl, inr}

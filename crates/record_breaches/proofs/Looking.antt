@@ -1,4 +1,4 @@
--- What one look at a record tells. Assumes nothing.
+-- What one look at a record shows. Assumes nothing.
 use mathlib.Core.Path.{_≡_, refl, sym, ap, _∙_}
 use mathlib.Core.Bool.{true, not, _||_, and-false}
 use mathlib.Core.List.{List}

@@ -1,4 +1,4 @@
--- Tags one after the other, and the bits that they leave under their remainders. Assumes nothing.
+-- Tags one after the other, and the bits that are set for their remainders. Assumes nothing.
 use mathlib.Core.Path.{_≡_, sym, ap, _∙_}
 use mathlib.Core.Bool.{true, false, true≢false, _||_}
 use mathlib.Core.Logic.{⊎-elim}

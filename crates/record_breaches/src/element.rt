@@ -13,7 +13,7 @@ ghost use Rattle.naming.specs.Naming.{named, parentOf, climb};
 ghost use Rattle.naming.specs.Chained.{Names};
 ghost use Rattle.rules.specs.Table.{badOwn, repeats, elementKey, recordRows};
 
-// Every fault of record i, of which it is known what rules 1, 2, 8 and 9 find.
+// Every fault of record i; bad, twice, again and endless say whether it breaks rules 1, 2, 8 and 9.
 pub(crate) fn put_faults(
     p: &[u8],
     starts: &[u16],

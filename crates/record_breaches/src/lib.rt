@@ -1,5 +1,5 @@
-// The breaches of one record, put into a fault buffer in the order of rules and items. Most records have none: then one look is
-// enough.
+// The breaches of one record, written to a fault buffer in the order of rules and items. Most records have none: for these one look
+// is usually enough.
 mod element;
 mod look;
 mod other;
@@ -18,7 +18,7 @@ ghost use Rattle.naming.specs.Naming.{firstOf, named, kindOf, parentOf, climb};
 ghost use Rattle.naming.specs.Chained.{Names, Owned};
 ghost use Rattle.rules.specs.Table.{repeats, elementKey, recordRows};
 
-// Every fault of record i, which is no device element. The first device's number is given, 0 where there is none.
+// Every fault of record i, which is not a device element. device is the number of the first device, 0 if there is none.
 pub fn put_other(
     p: &[u8],
     starts: &[u16],
@@ -54,8 +54,8 @@ pub fn put_other(
     )
 }
 
-// Every fault of record i, a device element: its fields, the number of the record that its parent names and that one's kind are
-// given, and whether it breaks rule 8 and rule 9.
+// Every fault of record i, a device element with fields e; parent is the number of the record that its parent names, kind that record's
+// kind, and again and endless say whether it breaks rule 8 and rule 9.
 pub fn put_element(
     p: &[u8],
     starts: &[u16],

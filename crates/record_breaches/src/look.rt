@@ -1,5 +1,5 @@
-// Whether a record has no fault, by one look at it, with few branches between its tests. A look may leave a record without a fault
-// undecided, and never the other way. Fields are read behind one or two tests that the pool reaches so far.
+// Whether a record has no fault, by one look at it, with few branches between its tests. A look may fail to clear a record that has no
+// fault, but never clears one that has a fault. Before fields are read, one or two tests make sure that they are within the pool.
 use records::DeviceElement;
 ghost use mathlib.Core.Path.{_≡_};
 ghost use mathlib.Core.Bool.{true, false, not, _||_};
@@ -15,7 +15,7 @@ ghost use Rattle.naming.specs.Chained.{Names, Owned};
 ghost use Rattle.rules.specs.Table.{badOwn, repeats, isParent, entryNamed, fieldRows, presentedRows, recordRows};
 ghost use Rattle.field_rules.specs.Clean.{Apart};
 
-// Rules 6 and 7 of a presentation's ID.
+// Whether the ID of a presentation keeps rules 6 and 7.
 fn is_presented(p: &[u8], starts: &[u16], heads: &[u16], next: &[u16], id: u16) -> bool
     requires { ⌜ Names (now p) (now starts) (now heads) (now next) ⌝ }
     ensures { λ r. ⌜ (r ≡ true → AllClear (presentedRows (entriesOf (now (p .entry)) (now (starts .entry))) id)) ⌝ }
@@ -27,8 +27,8 @@ fn is_presented(p: &[u8], starts: &[u16], heads: &[u16], next: &[u16], id: u16) 
     naming::kind_at(p, starts, named) == 5
 }
 
-// Whether rules 1 and 2 find nothing in record i, as one of a kind that is no device. Where all records but devices are known to have
-// IDs of their own, it is not looked at.
+// Whether record i, which is not a device, keeps rules 1 and 2. If it is known that every record other than a device has an ID of its
+// own (owned), the record is not looked at.
 fn is_own(
     p: &[u8],
     starts: &[u16],
@@ -48,7 +48,7 @@ fn is_own(
     !(bad | naming::repeats_id(p, starts, heads, next, i))
 }
 
-// Process data. The look at a property differs in where the text stands and has no rule 5; both are quicker for standing apart.
+// Process data. The look at a property has the text at another place and no rule 5; two separate functions are faster.
 fn is_clear_data(
     p: &[u8],
     starts: &[u16],
@@ -130,7 +130,7 @@ fn is_clear_value(
     (own & field_rules::is_fit_value(v)) & text::is_sound_in(p, v.unit.from, v.unit.to)
 }
 
-// Record i, which is no device element, by its kind. A device is rare, and not looked at.
+// Record i, which is not a device element, by its kind. A device is rare, and not looked at.
 pub(crate) fn is_clear_other(
     p: &[u8],
     starts: &[u16],
@@ -155,8 +155,8 @@ pub(crate) fn is_clear_other(
     false
 }
 
-// Rules 6, 7 and 12 of a list of entries. Each DDI stamps the place of its remainder with a number that records near by do not have:
-// where that stands already, the DDI may be in the list twice, and the walk over the list decides that.
+// Rules 6, 7 and 12 of a list of entries. For each DDI the place of its remainder is stamped with a number that differs from that of
+// nearby records. If the stamp is already there, the DDI may be in the list twice, and the walk over the list has to decide that.
 fn is_clear_list(
     p: &[u8],
     starts: &[u16],
@@ -186,8 +186,8 @@ fn is_clear_list(
     true
 }
 
-// The same of a long list, which would soon meet its own stamps: bits under 16,384 remainders, which tell apart all DDIs of the
-// standard and those that makers choose.
+// The same for a long list, in which DDIs would often share one of those places: a bit for each of 16,384 remainders, which are different
+// for all DDIs of the standard and all proprietary ones.
 fn is_clear_long(
     p: &[u8],
     starts: &[u16],
@@ -241,7 +241,7 @@ fn is_clear_entries(
     is_clear_list(p, starts, heads, next, at, from, size, number, seen)
 }
 
-// A device element by its fields and its parent's kind.
+// A device element, by its fields and its parent's kind.
 pub(crate) fn is_clear_element(
     p: &[u8],
     starts: &[u16],

@@ -1,4 +1,4 @@
-// The faults of a record that is no device element, rule by rule, by its kind.
+// The faults of a record that is not a device element, rule by rule, by its kind.
 ghost use mathlib.Core.Path.{_≡_};
 ghost use mathlib.Core.List.{_++_};
 ghost use Prim.Native.Nat.{_+_, _≤_, _<_, _^_};
@@ -11,7 +11,7 @@ ghost use Rattle.naming.specs.Naming.{firstOf};
 ghost use Rattle.naming.specs.Chained.{Names};
 ghost use Rattle.rules.specs.Table.{badOwn, repeats, presentedRows, dataRows, propertyRows, kindRows, recordRows};
 
-// Rules 6 and 7 of process data and of a property.
+// Rules 6 and 7 of the presentation of process data or of a property.
 fn put_presented(
     p: &[u8],
     starts: &[u16],
@@ -107,7 +107,7 @@ fn put_kind(
     n
 }
 
-// Every fault of record i, of which it is known what rules 1 and 2 find.
+// Every fault of record i; bad and again say whether it breaks rules 1 and 2.
 pub(crate) fn put_faults(
     p: &[u8],
     starts: &[u16],

@@ -1,4 +1,4 @@
--- No mark stands where fewer than three bytes are left. Assumes nothing.
+-- There is no mark where fewer than three bytes are left. Assumes nothing.
 use mathlib.Core.Path.{_≡_, refl, sym, ap, subst, _∙_}
 use mathlib.Core.Bool.{Bool, true, false, _&&_, _||_}
 use mathlib.Core.List.{List, [], _∷_}

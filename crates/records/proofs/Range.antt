@@ -1,4 +1,4 @@
--- A record that ends, ends behind its mark and within the pool, its fields where the layout says. Assumes nothing.
+-- A record that ends, ends after its mark and within the pool, with its fields where the layout says. Assumes nothing.
 use mathlib.Core.Path.{_≡_, refl, sym, ap, _∙_}
 use mathlib.Core.Bool.{Bool, true, false, cond}
 use mathlib.Core.List.{List, [], _∷_}

@@ -11,8 +11,8 @@ use Rattle.records.specs.declared.Mark.the-variants.{Of, Unknown}
 use Rattle.records.specs.declared.Extent.{Extent}
 use Rattle.records.specs.declared.Extent.the-variants.{Ends, NoMark, Cut, LengthOver}
 
--- a field that starts at a place: where it ends, if the pool has all of it. A length byte that is there and over its limit
--- is refused at its own place, whether or not its text is there
+-- where a field that starts at a place ends, if the pool has all of it. A length byte that is present and over its limit
+-- is refused at its own place, whether or not its text is present
 unfoldable pub fieldEnd : Field → List ℕ → ℕ → Extent
 fieldEnd (fixed n) p at = cond (leb (at + n) (length p)) (Ends (at + n)) Cut
 fieldEnd (text limit) p at =
@@ -22,23 +22,23 @@ fieldEnd (text limit) p at =
 fieldEnd entries p at =
     cond (leb (at + 2) (length p)) (cond (leb (at + 2 + 2 * numberAt 2 p at) (length p)) (Ends (at + 2 + 2 * numberAt 2 p at)) Cut) Cut
 
--- the next field starts where this one ends; the first refusal stands
+-- the next field starts where the last one ended; the first refusal is kept
 abbrev pub next : Field → List ℕ → Extent → Extent
 next f p (Ends at) = fieldEnd f p at
 next f p NoMark = NoMark
 next f p Cut = Cut
 next f p (LengthOver at) = LengthOver at
 
--- fields read from left to right
+-- where fields that follow each other end, read from left to right
 abbrev pub fieldsEnd : List Field → List ℕ → Extent → Extent
 fieldsEnd [] p e = e
 fieldsEnd (f ∷ fs) p e = fieldsEnd fs p (next f p e)
 
--- where the fields behind a mark end
+-- where the fields after a mark end
 abbrev pub markedEnd : Mark → List ℕ → ℕ → Extent
 markedEnd (Of k) p at = fieldsEnd (layout k) p (Ends at)
 markedEnd Unknown p at = NoMark
 
--- the record that starts at a place: one or two bytes are cut whatever they are, three that are no mark are no record
+-- where the record that starts at a place ends: fewer than three bytes are a cut record, three that are no mark are no record
 unfoldable pub extentOf : List ℕ → ℕ → Extent
 extentOf p at = cond (leb (at + 3) (length p)) (markedEnd (markOf (three p at)) p (at + 3)) Cut

@@ -9,8 +9,8 @@ use Rattle.records.specs.declared.Kind.the-variants.{Dvc, Det, Dpd, Dpt,
 use Rattle.records.specs.declared.Mark.{Mark}
 use Rattle.records.specs.declared.Mark.the-variants.{Of, Unknown}
 
--- a field: so many bytes; a text, which is its length byte, at most so much, and that many bytes; or the entry IDs of a
--- device element, which are a count of two bytes and two bytes for each
+-- a field: a fixed number of bytes; a text, which is a length byte up to a limit and that many bytes; or the entry IDs of a
+-- device element, which are a count of two bytes and two bytes for each entry
 pub data Field : Type 0 where
   fixed : ℕ → Field
   text : ℕ → Field
@@ -35,7 +35,7 @@ layout Dpd = fixed 2 ∷ fixed 2 ∷ fixed 1 ∷ fixed 1 ∷ text 128 ∷ fixed 
 layout Dpt = fixed 2 ∷ fixed 2 ∷ fixed 4 ∷ text 128 ∷ fixed 2 ∷ []
 layout Dvp = fixed 2 ∷ fixed 4 ∷ fixed 4 ∷ fixed 1 ∷ text 128 ∷ []
 
--- a kind as a number in a table; document 01 leaves the number free
+-- the number of a kind in the working table; document 01 leaves the number free
 abbrev pub kindNumber : Kind → ℕ
 kindNumber Dvc = 1
 kindNumber Det = 2
@@ -43,7 +43,7 @@ kindNumber Dpd = 3
 kindNumber Dpt = 4
 kindNumber Dvp = 5
 
--- the number of the kind that a mark stands for, 0 for none
+-- the number of the kind that a mark tells, 0 for no mark
 abbrev pub markNumber : Mark → ℕ
 markNumber (Of k) = kindNumber k
 markNumber Unknown = 0
@@ -55,7 +55,7 @@ same [] (y ∷ ys) = false
 same (x ∷ xs) [] = false
 same (x ∷ xs) (y ∷ ys) = eqb x y && same xs ys
 
--- the kind whose mark the bytes are
+-- the kind whose mark the bytes are, or unknown
 unfoldable pub markOf : List ℕ → Mark
 unfolding mark
 markOf s =
@@ -65,6 +65,6 @@ markOf s =
     (cond (same s (mark Dpt)) (Of Dpt)
     (cond (same s (mark Dvp)) (Of Dvp) Unknown))))
 
--- the three bytes at a place, 0 for one past the end; no mark has a 0
+-- the three bytes at a place, 0 for a byte past the end; no mark contains a 0
 abbrev pub three : List ℕ → ℕ → List ℕ
 three p at = getD p at 0 ∷ getD p (at + 1) 0 ∷ getD p (at + 2) 0 ∷ []

@@ -1,4 +1,4 @@
--- Where a record's fields stand. A field is named by its number in the layout, counted from 0 after the mark. Definitions only.
+-- The places of a record's fields. A field is given by its number in the layout, counted from 0 after the mark. Definitions only.
 use Prim.Native.Nat.{ℕ, _+_, _*_}
 use mathlib.Core.List.{List, [], _∷_}
 use lib.ListN.{getD, take}
@@ -6,22 +6,22 @@ use Rattle.wire.specs.Bytes.{numberAt}
 use Rattle.records.specs.Layout.{Field, fixed, text, entries, layout}
 use Rattle.records.specs.declared.Kind.{Kind}
 
--- the place behind a field that starts at a place
+-- the place after a field that starts at a place
 abbrev pub behind : Field → List ℕ → ℕ → ℕ
 behind (fixed n) p at = at + n
 behind (text limit) p at = at + 1 + getD p at 0
 behind entries p at = at + 2 + 2 * numberAt 2 p at
 
--- the place behind some fields that follow each other
+-- the place after fields that follow each other
 abbrev pub behindAll : List Field → List ℕ → ℕ → ℕ
 behindAll [] p at = at
 behindAll (f ∷ fs) p at = behindAll fs p (behind f p at)
 
--- where field i of the record that starts at a place stands
+-- the place of field i of the record that starts at a place
 unfoldable pub fieldAt : Kind → ℕ → List ℕ → ℕ → ℕ
 unfolding layout
 fieldAt k i p at = behindAll (take i (layout k)) p (at + 3)
 
--- the object ID is the first field of every kind
+-- the object ID, which is the first field of every kind
 unfoldable pub idOf : List ℕ → ℕ → ℕ
 idOf p at = numberAt 2 p (at + 3)

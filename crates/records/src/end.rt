@@ -1,5 +1,5 @@
-// Where a record ends. Only a length byte and an entry count are looked for as they come; that the rest is there is tested
-// once, at the record's end, since a field behind the pool's end leaves none in front of it. A refusal passes through.
+// Where a record ends. On the way only length bytes and an entry count are tested for being within the pool. For all other fields one
+// test at the record's end is enough: if a field is past the pool's end, so is the record's end. A refusal is passed on.
 use super::Extent;
 use super::Kind;
 use super::Mark;
@@ -13,7 +13,7 @@ ghost use Rattle.records.specs.Late.{lateField, lateNext, closed, placeO
 ghost use Rattle.records.specs.declared.Extent.the-variants.{Ends};
 ghost use Rattle.records.specs.declared.Kind.the-variants.{Dvc, Det, Dpd, Dpt, Dvp};
 
-// So many bytes, which are looked for later.
+// Skips n bytes, without testing that they are there.
 fn skip(e: Extent, n: usize) -> Extent
     requires { ⌜ placeOf e + n < 2 ^ 64 ⌝ }
     ensures { λ r. ⌜ ((p : List ℕ) → r ≡ lateNext (fixed n) p e) × (placeOf r ≤ placeOf e + n) ⌝ }
@@ -26,7 +26,7 @@ fn skip(e: Extent, n: usize) -> Extent
     }
 }
 
-// A length byte and its text.
+// The end of a text with its length byte at a place.
 fn text_end(p: &[u8], at: usize, limit: u8) -> Extent
     ensures { λ r. ⌜ (r ≡ lateField (text limit) (now (p .entry)) at) × (placeOf r ≤ length (now (p .entry)) + 256) ⌝ }
 {
@@ -40,7 +40,7 @@ fn text_end(p: &[u8], at: usize, limit: u8) -> Extent
     Extent::Ends(at + 1 + n as usize)
 }
 
-// The same so many bytes behind a place in the pool. The test is on what is left of the pool, so that the walk from record to record
+// The same for a length byte n bytes after a place in the pool. What is left of the pool is tested, so that the walk from record to record
 // waits for the length byte alone.
 fn text_behind(p: &[u8], at: usize, n: usize, limit: u8) -> Extent
     requires { ⌜ at ≤ length (now p) ⌝ }
@@ -67,7 +67,7 @@ fn next_text(p: &[u8], e: Extent, limit: u8) -> Extent
     }
 }
 
-// An entry count and its entries.
+// The end of a list of entries with its count at a place.
 fn entries_end(p: &[u8], at: usize) -> Extent
     ensures { λ r. ⌜ r ≡ lateField entries (now (p .entry)) at ⌝ }
 {
@@ -92,7 +92,7 @@ fn next_entries(p: &[u8], e: Extent) -> Extent
     }
 }
 
-// The record's end, if the pool reaches it.
+// The record's end, if it is within the pool.
 fn close(p: &[u8], e: Extent) -> Extent
     ensures { λ r. ⌜ r ≡ closed (now (p .entry)) e ⌝ }
 {
@@ -109,8 +109,8 @@ fn close(p: &[u8], e: Extent) -> Extent
     }
 }
 
-// So many bytes, a length byte with its text, and so many bytes more, up to the record's end. Where it would end with an empty text does
-// not wait for the length byte, so that the walk from record to record waits for one load and one sum.
+// The end of a record of n bytes, a text with its length byte, and m bytes. Where the record would end with an empty text is computed
+// without the length byte, so that the walk from record to record waits for one load and one sum.
 fn text_within(p: &[u8], at: usize, n: usize, limit: u8, m: usize) -> Extent
     requires { ⌜ (at ≤ length (now p)) × (n ≤ 16) × (m ≤ 16) ⌝ }
     ensures { λ r. ⌜ r ≡ closed (now (p .entry)) (lateNext (fixed m) (now (p .entry)) (lateField (text limit) (now (p .entry)) (at + n))) ⌝ }
@@ -158,7 +158,7 @@ fn det_cut(p: &[u8], at: usize) -> Extent
     close(p, list)
 }
 
-// The same in any pool. As with other records, where it would end with no text and no entry does not wait for the length byte.
+// The same in any pool. As with other records, where it would end with no text and no entry is computed without the length byte.
 fn det_end(p: &[u8], at: usize) -> Extent
     requires { ⌜ at ≤ length (now p) ⌝ }
     ensures { λ r. ⌜ r ≡ fieldsEnd (layout Det) (now (p .entry)) (Ends at) ⌝ }
@@ -191,8 +191,8 @@ fn dpd_end(p: &[u8], at: usize) -> Extent
     text_within(p, at, 2 + 2 + 1 + 1, 128, 2)
 }
 
-// ID, DDI, value, designator, presentation ID. Not by the same function as process data: the compiler would join the two, and each step
-// would wait longer.
+// ID, DDI, value, designator, presentation ID. It does not use the same function as process data: the compiler would merge the two, and
+// each step would wait longer.
 fn dpt_end(p: &[u8], at: usize) -> Extent
     requires { ⌜ at ≤ length (now p) ⌝ }
     ensures { λ r. ⌜ r ≡ fieldsEnd (layout Dpt) (now (p .entry)) (Ends at) ⌝ }
@@ -210,7 +210,7 @@ fn dvp_end(p: &[u8], at: usize) -> Extent
     text_within(p, at, 2 + 4 + 4 + 1, 128, 0)
 }
 
-// The fields after a mark.
+// Where the fields after a mark end.
 pub(crate) fn marked(p: &[u8], m: Mark, at: usize) -> Extent
     requires { ⌜ at ≤ length (now p) ⌝ }
     ensures { λ r. ⌜ r ≡ markedEnd m (now (p .entry)) at ⌝ }

@@ -1,5 +1,5 @@
-// The five records of annex A: their marks, where a record ends, and what fields it has.
-// Every public function takes any bytes and any place.
+// The five records of annex A: their marks, where a record ends, and what fields it has. Every public function takes any bytes and any
+// place, except that `marked_kind`, `kind_number` and `is_data` of `view` require a mark at the place.
 mod end;
 pub mod view;
 
@@ -11,7 +11,7 @@ pub enum Kind {
     Dvp,
 }
 
-// What the first three bytes of a record say.
+// The kind that the first three bytes of a record tell.
 pub enum Mark {
     Of(Kind),
     Unknown,
@@ -25,7 +25,7 @@ pub enum Extent {
     LengthOver(usize),
 }
 
-// A part of the pool: from a place up to another.
+// A part of the pool: from one place up to, but not including, another.
 #[repr(C)]
 pub struct Span {
     pub from: usize,
@@ -69,7 +69,7 @@ pub struct Property {
     pub presentation: u16,
 }
 
-// The scale as its bits: whether it is in range is judged on these.
+// The scale is given as its bits, by which its range is judged.
 #[repr(C)]
 pub struct ValuePresentation {
     pub offset: i32,
@@ -84,7 +84,7 @@ ghost use Rattle.records.specs.Layout.{markNumber, markOf, three};
 ghost use Rattle.records.specs.Extents.{extentOf};
 ghost use Rattle.records.specs.Answer.{extentAnswer, recordAnswer};
 
-// The kind by the three letters of its mark. The second and the third are compared as one number.
+// The kind by the three letters of its mark. The second and third letters are compared as one number.
 fn mark_of(a: u8, b: u8, c: u8) -> Mark
     ensures { λ r. ⌜ r ≡ markOf (a ∷ b ∷ c ∷ []) ⌝ }
 {

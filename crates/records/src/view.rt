@@ -1,5 +1,5 @@
-// What every record begins with: its mark and its object ID. A place is 16 bits, as every record's start is. Bytes past the
-// pool's end read as 0.
+// What every record begins with: its mark and its object ID. A place has 16 bits, as every record's start does. Bytes past the
+// pool's end are read as 0.
 use super::Mark;
 ghost use mathlib.Core.Path.{_≡_};
 ghost use mathlib.Core.Bool.{_||_};
@@ -18,7 +18,7 @@ pub fn mark(p: &[u8], at: u16) -> Mark
     )
 }
 
-// The number of the record's kind, 0 where no mark stands.
+// The number of the record's kind, 0 if there is no mark at the place.
 pub fn kind(p: &[u8], at: u16) -> u16
     ensures { λ r. ⌜ r ≡ markNumber (markOf (three (now (p .entry)) at)) ⌝ }
 {
@@ -29,7 +29,7 @@ pub fn kind(p: &[u8], at: u16) -> u16
     super::mark_number(super::mark_of(p[start], p[start + 1], p[start + 2]))
 }
 
-// The same where a mark stands, for a caller that goes on by the kind: two letters of the mark tell it from the others.
+// The same if it is known that there is a mark, for a caller that branches on the kind: two letters tell the marks apart.
 pub fn marked_kind(p: &[u8], at: u16) -> u16
     requires { ⌜ (markNumber (markOf (three (now p) at)) ≡ 0 → ⊥) ⌝ }
     ensures { λ r. ⌜ r ≡ markNumber (markOf (three (now (p .entry)) at)) ⌝ }
@@ -52,7 +52,7 @@ pub fn marked_kind(p: &[u8], at: u16) -> u16
     1
 }
 
-// The same without a branch, for a caller that keeps the kind or compares it: the two letters as a number, times 6663, have the kind in
+// The same without a branch, for a caller that stores or compares the kind: the two letters as a number, times 6663, have the kind in
 // bits 15 to 17.
 pub fn kind_number(p: &[u8], at: u16) -> u16
     requires { ⌜ (markNumber (markOf (three (now p) at)) ≡ 0 → ⊥) ⌝ }
@@ -63,7 +63,7 @@ pub fn kind_number(p: &[u8], at: u16) -> u16
     (letters * 6663 / 32768 % 8) as u16
 }
 
-// Whether process data or a property stands where a mark stands: a P is the second letter of their marks and of no other.
+// Whether a record with a mark is process data or a property: P is the second letter of their marks and of no other.
 pub fn is_data(p: &[u8], at: u16) -> bool
     requires { ⌜ (markNumber (markOf (three (now p) at)) ≡ 0 → ⊥) ⌝ }
     ensures { λ r. ⌜ r ≡ (eqb (markNumber (markOf (three (now (p .entry)) at))) 3 || eqb (markNumber (markOf (three (now (p .entry)) at))) 4) ⌝ }
@@ -71,7 +71,7 @@ pub fn is_data(p: &[u8], at: u16) -> bool
     p[at as usize + 1] == b'P'
 }
 
-// The object ID, in a record of any kind.
+// The object ID of a record of any kind.
 pub fn id(p: &[u8], at: u16) -> u16
     ensures { λ r. ⌜ r ≡ idOf (now (p .entry)) at ⌝ }
 {

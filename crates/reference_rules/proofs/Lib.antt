@@ -1,4 +1,4 @@
--- What belongs to no one function.
+-- Laws that are not about a single function.
 pub mod Tags
 pub mod Looking
 pub mod Seen

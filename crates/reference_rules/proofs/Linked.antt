@@ -1,5 +1,5 @@
--- Rule 12's walk along links under the records' numbers. What the lists have is said of the entries: the last entry of a
--- remainder that brings a new tag, and under the record of such an entry the last one before it. What no entry names has no link.
+-- Rule 12's walk along links by the records' numbers. The lists are described by the entries: for a remainder, the last entry
+-- with a new tag, and for the record of such an entry the last one before it. A record that no entry names has no link.
 -- Assumes nothing.
 use mathlib.Core.Path.{_≡_, refl, sym, ap, _∙_}
 use mathlib.Core.Bool.{Bool, true, false, true≢false, cond, _&&_}

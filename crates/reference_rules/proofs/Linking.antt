@@ -1,4 +1,4 @@
--- Rule 12's walk along links, entry by entry: the faults put, and the lists. Assumes nothing.
+-- Rule 12's walk along links, entry by entry: the faults reported, and the lists. Assumes nothing.
 use mathlib.Core.Path.{_≡_, refl, sym, ap, _∙_}
 use mathlib.Core.Bool.{true}
 use mathlib.Core.Logic.{⊎-elim}

@@ -1,4 +1,4 @@
--- The walk over the entries that puts rule 6: what it has seen of the kinds that they name. Assumes nothing.
+-- The walk over the entries for rule 6: what it has found about the kinds that they name. Assumes nothing.
 use mathlib.Core.Path.{_≡_, refl, sym, _∙_}
 use mathlib.Core.Bool.{Bool, true, false, not, _&&_, _||_}
 use mathlib.Core.Logic.{⊎-elim}

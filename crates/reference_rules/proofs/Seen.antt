@@ -1,4 +1,4 @@
--- Rule 12's walk: what stands in the list of DDIs seen, and what that says of the tags. Assumes nothing.
+-- Rule 12's walk: what the list of DDIs seen holds, and what follows for the tags. Assumes nothing.
 use mathlib.Core.Path.{_≡_, refl, sym, ap, _∙_}
 use mathlib.Core.Bool.{true, false}
 use mathlib.Core.Logic.{_⊎_, inl, inr, ⊎-elim}

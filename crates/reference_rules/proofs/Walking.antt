@@ -1,4 +1,4 @@
--- Rule 12's walk, entry by entry: the faults put and the DDIs seen. Assumes nothing.
+-- Rule 12's walk, entry by entry: the faults reported and the DDIs seen. Assumes nothing.
 use mathlib.Core.Path.{_≡_, refl, sym, _∙_, subst}
 use mathlib.Core.Bool.{Bool, true, false}
 use mathlib.Core.List.{List, [], _∷_}

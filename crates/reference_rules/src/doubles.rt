@@ -1,5 +1,5 @@
-// Rule 12: a list of entries names no DDI twice. A walk over the entries has a walk over the earlier ones inside, one at a time, which
-// is left at the first match. Here over all earlier ones, for a short list; `links.rt` has the walk of a long one.
+// Rule 12: a list of entries names no DDI twice. Inside a walk over the entries there is a walk over the earlier ones, one at a time, which
+// is left at the first match. Here it goes over all earlier ones, for a short list; `links.rt` has the walk for a long one.
 ghost use mathlib.Core.Path.{_≡_};
 ghost use mathlib.Core.Bool.{false};
 ghost use mathlib.Core.List.{[], _∷_};
@@ -12,7 +12,7 @@ ghost use Rattle.naming.specs.Chained.{Names};
 ghost use Rattle.rules.specs.Table.{doubled};
 ghost use Rattle.reference_rules.specs.Lists.{entryTag};
 
-// A short list: each entry against all earlier ones that name process data or a property, by their DDIs. A DDI is kept once.
+// A short list: each entry is compared with all earlier ones that name process data or a property, by their DDIs. A DDI is kept once.
 fn walk_seen(
     p: &[u8],
     starts: &[u16],

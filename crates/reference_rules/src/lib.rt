@@ -1,5 +1,5 @@
-// The rules that look from a device element at what it refers to: its parent, and its list of entries. Entries are read from the pool and
-// looked up as they are needed: no list of what they name is kept.
+// The rules about what a device element refers to: its parent and its list of entries. Entries are read from the pool and looked up
+// when they are needed: no list of the records that they name is kept.
 mod doubles;
 mod links;
 
@@ -31,7 +31,7 @@ fn ddi_at(p: &[u8], starts: &[u16], number: u16) -> u16
     wire::pair(p, starts[number as usize - 1] as usize + 5)
 }
 
-// 0 where a number stands for no process data or property, else its DDI and 1.
+// The tag of the record with a number: its DDI plus 1 if it is process data or a property, else 0.
 pub fn tag_at(p: &[u8], starts: &[u16], number: u16) -> usize
     requires { ⌜ Divided (now p) (now starts) × (number < length (now starts)) ⌝ }
     ensures { λ r. ⌜ (r ≡ tagOf (now (p .entry)) (entriesOf (now (p .entry)) (now (starts .entry))) number) × (r ≤ 65536) ⌝ }
@@ -56,8 +56,8 @@ fn is_wrong_entry(p: &[u8], starts: &[u16], named: u16) -> bool
     (named != 0) & !naming::is_data_at(p, starts, named)
 }
 
-// What a walk over the entries has found: the count of faults, whether an entry names a record of a wrong kind, and how many name
-// process data or a property.
+// What a walk over the entries has found: the count of faults, whether an entry names a record of a wrong kind, and how many entries
+// name process data or a property.
 struct Looked {
     n: usize,
     wrong: bool,
@@ -137,7 +137,7 @@ fn put_numbered(again: bool, endless: bool, number: u16, faults: &mut [u16], cou
     faults::put_if(endless, faults, n8, number, 9, 1)
 }
 
-// Rules 6 to 9 and 12 of a device element, all of 6 before all of 7.
+// Rules 6 to 9 and 12 of a device element. All faults of rule 6 come before those of rule 7.
 pub fn put_references(
     p: &[u8],
     starts: &[u16],

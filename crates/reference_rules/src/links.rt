@@ -1,5 +1,5 @@
-// Rule 12 of a long list: each entry against the earlier ones whose DDI has the same remainder, one at a time. The inner walk is left at
-// the first match. An entry that names the same record as an earlier one needs no walk: the record has a link already.
+// Rule 12 of a long list: each entry is compared with the earlier ones whose DDI has the same remainder, one at a time. The inner walk is
+// left at the first match. An entry that names the same record as an earlier one needs no walk: the record already has a link.
 ghost use mathlib.Core.Path.{_≡_};
 ghost use mathlib.Core.List.{[], _∷_};
 ghost use Prim.Native.Nat.{_+_, _≤_, _<_, _^_};
@@ -12,12 +12,12 @@ ghost use Rattle.naming.specs.Chained.{Names};
 ghost use Rattle.rules.specs.Table.{doubled};
 ghost use Rattle.reference_rules.specs.Lists.{entryTag};
 
-// The walk, by lists that are lent. `tops` has under each remainder the record that was entered last, and `links` has under the number of
-// a record with a DDI
+// The walk, with lists that are lent. `tops` has for each remainder the number of the record that was entered last, and `links` has for the
+// number of each process data or property
 //     0      as long as no entry has named it,
-//     1 + k  if it was entered: k is the record that was entered before it, whatever its number, or 0 for the first of a remainder,
-//     65535  if it was named and not entered, since another record with its DDI had been entered before.
-// So a DDI is entered once, and a record is looked for along the links once.
+//     1 + k  if it was entered: k is the record that was entered before it with the same remainder, or 0 if it was the first,
+//     65535  if it was named and not entered, since another record with the same DDI had been entered before.
+// So a DDI is entered once, and the links are walked once for each record.
 fn walk_links(
     p: &[u8],
     starts: &[u16],
@@ -64,7 +64,7 @@ fn walk_links(
     n
 }
 
-// The same with lists of its own, which are on the stack of long lists alone.
+// The same with lists of its own, which take stack only if there is a long list.
 pub fn walk_long(
     p: &[u8],
     starts: &[u16],

@@ -1,4 +1,4 @@
--- The rows of a record by its kind, and that they stand in order. Assumes nothing.
+-- The rows of a record by its kind, and that they are in order. Assumes nothing.
 use mathlib.Core.Path.{_≡_, refl}
 use mathlib.Core.Bool.{Bool, true, false, cond}
 use mathlib.Core.List.{List, [], _++_}

@@ -1,4 +1,4 @@
--- Tests made of tests, taken apart and put together. Assumes nothing.
+-- Laws about combined tests. Assumes nothing.
 use mathlib.Core.Path.{_≡_, refl, sym, ap, _∙_}
 use mathlib.Core.Bool.{Bool, true, false, cond, not, _&&_, _||_, true≢false}
 use mathlib.Core.Logic.{_⊎_, inl, inr}

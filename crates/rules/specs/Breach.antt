@@ -1,4 +1,4 @@
--- The rule table in its own words: what a breach is, over a pool's bytes and its records. Nothing here says how it is found.
+-- The rule table in its own words: what a breach is, by a pool's bytes and its records. Nothing here says how it is found.
 -- Records are counted from 0 here and from 1 in a fault. Definitions only.
 use Prim.Native.Nat.{ℕ, zero, suc, _+_, _/_, _%_, _<_, _≤_}
 use mathlib.Core.Path.{_≡_}
@@ -14,19 +14,19 @@ use Rattle.text.specs.Examined.{Sound}
 use Rattle.pool.specs.Reading.{Entry}
 use Rattle.naming.specs.Records.{recordAt, startAt, idAt}
 
--- record i is there, and of this kind
+-- there is a record i, and it is of this kind
 pub record Is (es : List Entry) (k : Kind) (i : ℕ) : Type 0 where
   pub there : i < length es
   pub kind : recordAt es i .kind ≡ kindNumber k
 
--- of the records with an ID, the earliest is the one named by it; the ID 65535 stands for none
+-- an ID names the earliest of the records that have it; the ID 65535 names none
 pub record Names (es : List Entry) (x i : ℕ) : Type 0 where
   pub real : x ≡ 65535 → ⊥
   pub there : i < length es
   pub carries : idAt es i ≡ x
   pub first : (j : ℕ) → j < i → idAt es j ≡ x → ⊥
 
--- the texts that rule 4 speaks of, by item
+-- the texts that rule 4 is about, by item
 pub data Text (p : List ℕ) (es : List Entry) (i : ℕ) : ℕ → Span → Type 0 where
   device-designator : Is es Dvc i → Text p es i 1 (deviceOf p (startAt es i) .designator)
   device-version : Is es Dvc i → Text p es i 2 (deviceOf p (startAt es i) .version)
@@ -43,11 +43,11 @@ Bit (suc b) x = Bit b (x / 2)
 
 -- rule 5: a field out of its range, by item
 pub data OutOfRange (p : List ℕ) (es : List Entry) (i : ℕ) : ℕ → Type 0 where
-  -- device: 255 in the structure label or in the first six bytes of the localization label, or anything else in the seventh
+  -- device: 255 in the structure label or in the first six bytes of the localization label, or anything other than 255 in the seventh
   structure : {j : ℕ} → Is es Dvc i → j < 7 → getD p (deviceOf p (startAt es i) .structure .from + j) 0 ≡ 255 → OutOfRange p es i (1 + j)
   localization : {j : ℕ} → Is es Dvc i → j < 6 → getD p (deviceOf p (startAt es i) .localization .from + j) 0 ≡ 255 → OutOfRange p es i (8 + j)
   closing : Is es Dvc i → (getD p (deviceOf p (startAt es i) .localization .from + 6) 0 ≡ 255 → ⊥) → OutOfRange p es i 14
-  -- device element: the type is none of 1 to 7, the element number is over 4095
+  -- device element: the type is not 1 to 7, the element number is over 4095
   type : Is es Det i → ((1 ≤ elementOf p (startAt es i) .«element_type») × (elementOf p (startAt es i) .«element_type» ≤ 7) → ⊥) → OutOfRange p es i 1
   number : Is es Det i → 4095 < elementOf p (startAt es i) .number → OutOfRange p es i 2
   -- process data: a property bit above 2, settable together with control source, a trigger bit above 4
@@ -58,11 +58,11 @@ pub data OutOfRange (p : List ℕ) (es : List Entry) (i : ℕ) : ℕ → Type 0 
   scale : Is es Dvp i → ((0x322BCC77 ≤ presentationOf p (startAt es i) .scale) × (presentationOf p (startAt es i) .scale ≤ 0x4CBEBC20) → ⊥) → OutOfRange p es i 1
   decimals : Is es Dvp i → 7 < presentationOf p (startAt es i) .decimals → OutOfRange p es i 2
 
--- what a reference may name
+-- the roles of a reference
 pub data Role : Type 0 where
   parent entry presentation : Role
 
--- a parent is a device or a device element, an entry process data or a property, a presentation a value presentation
+-- which kinds fit: as parent a device or a device element, as entry process data or a property, as presentation a value presentation
 abbrev pub Fits : Role → List Entry → ℕ → Type 0
 Fits parent es i = Is es Dvc i ⊎ Is es Det i
 Fits entry es i = Is es Dpd i ⊎ Is es Dpt i
@@ -84,12 +84,12 @@ pub record Child (p : List ℕ) (es : List Entry) (i j : ℕ) : Type 0 where
   pub names : Names es (elementOf p (startAt es i) .parent) j
   pub parent : Is es Det j
 
--- so many steps up, from a device element to another
+-- n steps up from parent to parent lead from device element i to k
 pub data Above (p : List ℕ) (es : List Entry) : ℕ → ℕ → ℕ → Type 0 where
   here : {i : ℕ} → Above p es 0 i i
   up : {n i j k : ℕ} → Child p es i j → Above p es n j k → Above p es (suc n) i k
 
--- a chain that never ends goes on for any number of steps
+-- the chain of parents never ends: any number of steps can be taken
 abbrev pub Endless : List ℕ → List Entry → ℕ → Type 0
 Endless p es i = (n : ℕ) → (j : ℕ) × Above p es n i j
 
@@ -109,16 +109,16 @@ pub data Breach (p : List ℕ) (es : List Entry) : ℕ → ℕ → ℕ → Type 
   second-device : {i j : ℕ} → Is es Dvc i → j < i → Is es Dvc j → Breach p es (suc i) 3 1
   -- 4: a text is not sound
   unsound-text : {i item : ℕ} {s : Span} → Text p es i item s → (Sound (partOf p s) → ⊥) → Breach p es (suc i) 4 item
-  -- 5: outside the range
+  -- 5: a field is out of range
   out-of-range : {i item : ℕ} → OutOfRange p es i item → Breach p es (suc i) 5 item
-  -- 6: nothing is named
+  -- 6: a reference names no record
   names-none : {i item x : ℕ} {r : Role} → Refers p es i item r x → ((j : ℕ) → Names es x j → ⊥) → Breach p es (suc i) 6 item
-  -- 7: what is named does not fit there
+  -- 7: a reference names a record of a kind that does not fit
   wrong-kind : {i item x j : ℕ} {r : Role} → Refers p es i item r x → Names es x j → (Fits r es j → ⊥) → Breach p es (suc i) 7 item
   -- 8: an earlier device element has the same element number
   same-number : {i j : ℕ} → Is es Det i → j < i → Is es Det j → elementOf p (startAt es j) .number ≡ elementOf p (startAt es i) .number
       → Breach p es (suc i) 8 1
-  -- 9: going up from parent to parent comes to no end
+  -- 9: the chain of parents never ends
   endless : {i : ℕ} → Is es Det i → Endless p es i → Breach p es (suc i) 9 1
   -- 10: no device
   no-device : ((i : ℕ) → Is es Dvc i → ⊥) → Breach p es 0 10 1

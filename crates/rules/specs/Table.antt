@@ -1,5 +1,5 @@
--- The rule table as rows of tests, kind by kind, and the breach list. That it lists exactly the breaches, each once and in
--- order, is proved. Definitions only.
+-- The rule table as rows of tests, kind by kind, and the breach list. It is proved that it lists exactly the breaches, each once and
+-- in order. Definitions only.
 use Prim.Native.Nat.{ℕ, zero, suc, _+_, _/_, _%_}
 use mathlib.Core.Bool.{Bool, cond, not, _&&_, _||_}
 use mathlib.Core.List.{List, [], _∷_, _++_}
@@ -19,35 +19,35 @@ use Rattle.pool.specs.Reading.{Entry, scanOf, entriesIn}
 use Rattle.naming.specs.Records.{startAt, idAt, kindAt}
 use Rattle.naming.specs.Naming.{firstOf, typeKey, named, kindOf, parentOf, climb, isData, tagOf, among}
 
--- not the first of the records with a key
+-- record i is not the first of n records with the key x
 unfoldable pub repeats : (ℕ → ℕ) → ℕ → ℕ → ℕ → Bool
 repeats key x i n = not (eqb (firstOf key x n) (suc i))
 
--- 0, which is the ID of a device, or 65535, which names nothing
+-- an ID that only a device may have (0) or that names nothing (65535)
 abbrev pub badId : ℕ → Bool
 badId x = eqb x 0 || eqb x 65535
 
--- rule 4 of a text
+-- rule 4: a text is not sound
 unfoldable pub unsound : List ℕ → Span → Bool
 unsound p s = not (soundText (partOf p s))
 
--- the fourteen label bytes of a device: all but the last must not be 255, the last must
+-- label byte j of a device's fourteen is bad: the last one has to be 255, the others must not be
 abbrev pub badLabel : List ℕ → ℕ → ℕ → Bool
 badLabel p at j = cond (ltb j 13) (eqb (getD p (at + j) 0) 255) (not (eqb (getD p (at + j) 0) 255))
 
--- a scale whose bits, as a number, are outside of the range
+-- the bits of a scale, as a number, are outside the range
 abbrev pub badScale : ℕ → Bool
 badScale x = ltb x 0x322BCC77 || ltb 0x4CBEBC20 x
 
--- settable and control source
+-- settable and control source are both set
 abbrev pub badSource : ℕ → Bool
 badSource x = eqb (x / 2 % 4) 3
 
--- a reference by the number of the record that it names: it names none, or one of a wrong kind
+-- a kind that fits a parent: a device or a device element
 abbrev pub isParent : ℕ → Bool
 isParent k = eqb k 1 || eqb k 2
 
--- rule 7: something is named, and it is not of a right kind
+-- rule 7: a reference names record number r, and its kind is not right
 abbrev pub wrongKind : Bool → ℕ → Bool
 wrongKind right r = not (eqb r 0) && not right
 
@@ -55,7 +55,7 @@ wrongKind right r = not (eqb r 0) && not right
 unfoldable pub doubled : (ℕ → ℕ) → ℕ → Bool
 doubled tag m = not (eqb (tag m) 0) && among tag (tag m) m
 
--- rules 1 and 2, in every record
+-- rules 1 and 2 of any record
 abbrev pub ownRows : Bool → Bool → List Row
 ownRows bad again = one 1 1 bad ∷ one 2 1 again ∷ []
 
@@ -69,7 +69,7 @@ deviceRows p again d =
     ∷ many 5 1 14 (badLabel p (d .structure .from))
     ∷ []
 
--- a device element's own fields
+-- rules 4 and 5 of a device element
 abbrev pub fieldRows : List ℕ → DeviceElement → List Row
 fieldRows p e =
     one 4 1 (unsound p (e .designator))
@@ -77,7 +77,7 @@ fieldRows p e =
     ∷ one 5 2 (ltb 4095 (e .number))
     ∷ []
 
--- its references, by the number of the record that the parent names, those that the entries name, and the kinds of records
+-- rules 6 and 7 of a device element, by the numbers of the records that its parent and its entries name, and the kinds of records
 abbrev pub referenceRows : (ℕ → ℕ) → ℕ → (ℕ → ℕ) → ℕ → List Row
 referenceRows kind parent entry n =
     one 6 1 (eqb parent 0)
@@ -86,11 +86,11 @@ referenceRows kind parent entry n =
     ∷ many 7 2 n (λ (m : ℕ). wrongKind (isData (kind (entry m))) (entry m))
     ∷ []
 
--- its number, its chain of parents, and its list by the tags of what the entries name
+-- rules 8, 9 and 12 of a device element; rule 12 by the tags of the records that its entries name
 abbrev pub listRows : Bool → Bool → (ℕ → ℕ) → ℕ → List Row
 listRows again endless tag n = one 8 1 again ∷ one 9 1 endless ∷ many 12 2 n (doubled tag) ∷ []
 
--- a presentation of process data and of a property: 65535 is none. By the ID, the record that it names and that one's kind
+-- rules 6 and 7 of a presentation, by its ID, the number of the record that it names and that record's kind; 65535 means no presentation
 abbrev pub presentationRows : ℕ → ℕ → ℕ → List Row
 presentationRows x r k = one 6 1 (not (eqb x 65535) && eqb r 0) ∷ one 7 1 (wrongKind (eqb k 5) r) ∷ []
 
@@ -111,7 +111,7 @@ propertyRows p d = one 4 1 (unsound p (d .designator)) ∷ []
 abbrev pub valueRows : List ℕ → ValuePresentation → List Row
 valueRows p v = one 4 1 (unsound p (v .unit)) ∷ one 5 1 (badScale (v .scale)) ∷ one 5 2 (ltb 7 (v .decimals)) ∷ []
 
--- the same of record i among the records of a pool
+-- the number, from 1, of the record that entry m names, in the list of the device element at a place; 0 for none
 abbrev pub entryNamed : List ℕ → List Entry → ℕ → ℕ → ℕ
 entryNamed p es at m = named es (entryOf p at m)
 
@@ -119,11 +119,11 @@ entryNamed p es at m = named es (entryOf p at m)
 abbrev pub presentedRows : List Entry → ℕ → List Row
 presentedRows es x = presentationRows x (named es x) (kindOf es (named es x))
 
--- a device element's number and 1; 0 for another record, so that whatever the number is, no other record has it
+-- a device element's element number plus 1; 0 for any other record, so that it never equals the key of a device element
 abbrev pub elementKey : List ℕ → List Entry → ℕ → ℕ
 elementKey p es i = cond (eqb (kindAt es i) 2) (suc (elementOf p (startAt es i) .number)) 0
 
--- all rules of a device element but 1 and 2
+-- all rules of a device element except 1 and 2
 abbrev pub elementRows : List ℕ → List Entry → ℕ → DeviceElement → List Row
 elementRows p es i e =
     fieldRows p e
@@ -134,7 +134,7 @@ elementRows p es i e =
     (λ (m : ℕ). tagOf p es (entryNamed p es (startAt es i) m))
     (e .entries)
 
--- the rows of record i behind rules 1 and 2, by the number of its kind
+-- the rows of record i after rules 1 and 2, by the number of its kind
 unfoldable pub kindRows : List ℕ → List Entry → ℕ → ℕ → List Row
 kindRows p es i k =
     let at = startAt es i in
@@ -144,7 +144,7 @@ kindRows p es i k =
     (cond (eqb k 4) (propertyRows p (propertyOf p at) ++ presentedRows es (propertyOf p at .presentation))
     (cond (eqb k 5) (valueRows p (presentationOf p at)) []))))
 
--- rule 1: the ID of a record, by the number of its kind
+-- rule 1: the ID x of a record of kind k is not allowed
 abbrev pub badOwn : ℕ → ℕ → Bool
 badOwn k x = cond (eqb k 1) (not (eqb x 0)) (badId x)
 
@@ -153,7 +153,7 @@ abbrev pub recordRows : List ℕ → List Entry → ℕ → List Row
 recordRows p es i =
     ownRows (badOwn (kindAt es i) (idAt es i)) (repeats (idAt es) (idAt es i) i (length es)) ++ kindRows p es i (kindAt es i)
 
--- record 0: no device; no device element of type 1
+-- the rules of the pool as a whole: no device; no device element of type 1
 abbrev pub poolRows : List ℕ → List Entry → List Row
 poolRows p es = one 10 1 (eqb (firstOf (kindAt es) 1 (length es)) 0) ∷ one 11 1 (eqb (firstOf (typeKey p es) 1 (length es)) 0) ∷ []
 
@@ -162,7 +162,7 @@ abbrev pub rowsOf : List ℕ → List Entry → ℕ → List Row
 rowsOf p es zero = poolRows p es
 rowsOf p es (suc i) = recordRows p es i
 
--- the breach list over records, and of a pool
+-- the breach list for a list of records
 unfoldable pub breachesIn : List ℕ → List Entry → List Fault
 breachesIn p es = inRecords (rowsOf p es) (suc (length es))
 

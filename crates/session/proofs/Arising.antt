@@ -1,4 +1,4 @@
--- What holds of a value that can arise. Assumes nothing.
+-- What holds of a session value that is not impossible. Assumes nothing.
 use mathlib.Core.List.{List, [], _∷_}
 use mathlib.Core.Path.{_≡_, refl, sym}
 use mathlib.Core.Bool.{Bool, true, false, not, _&&_, _||_, true≢false}

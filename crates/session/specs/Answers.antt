@@ -5,7 +5,7 @@ use Rattle.session.specs.declared.Numbers.{Numbers}
 use Rattle.session.specs.declared.Answer.{Answer}
 use Rattle.session.specs.declared.Answer.the-variants.{Done, NoMark, Cut, LengthOver, TooMany, TableShort, BadSize, NotOffered, BadPiece, Incomplete, Faulty, NotActive, NoRoom, CannotArise}
 
--- number 0, or a refusal's number with its place or the first fault; what an answer does not have is zeros
+-- number 0, or a refusal's number with its place or the first fault; an answer without a place or a fault has zeros there
 pub record Reply : Type 0 where
   pub number : ℕ
   pub place : ℕ
@@ -19,7 +19,7 @@ reply n place = record { number = n; place = place; first = fault 0 0 0 }
 abbrev pub faulty : Fault → Reply
 faulty f = record { number = 24; place = 0; first = f }
 
--- the number, place and fault that each answer stands for
+-- the number, place and first fault of each answer
 abbrev pub replyOf : Answer → Reply
 replyOf Done = reply 0 0
 replyOf (NoMark at) = reply 3 at
@@ -36,6 +36,6 @@ replyOf NotActive = reply 25 0
 replyOf NoRoom = reply 26 0
 replyOf CannotArise = reply 27 0
 
--- an answer's numbers as they are given out
+-- the same from the numbers that `numbers_of` returns
 abbrev pub replyIn : Numbers → Reply
 replyIn n = record { number = n .number; place = n .place; first = fault (n .«record») (n .rule) (n .item) }

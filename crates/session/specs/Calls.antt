@@ -1,5 +1,5 @@
--- The session calls but for activating: document 01, "One client's session". For each call the value it returns and its reply, and
--- what it leaves in the memory it was lent. Definitions only.
+-- The session calls except activating: document 01, "One client's session". For each call the session value it returns and its reply,
+-- and what it leaves in the memory it was lent. Definitions only.
 use Prim.Native.Nat.{ℕ, _+_, _-_}
 use mathlib.Core.Bool.{Bool, false, cond, not, _&&_, _||_}
 use mathlib.Core.List.{List, [], _∷_}
@@ -14,7 +14,7 @@ use Rattle.session.specs.declared.Step.{Step}
 abbrev pub newSession : Session
 newSession = record { announced = 0; received = 0; kept = 0; stage = 0; active = 0 }
 
--- stage 0 is none, 1 is offered; active is 0 or 1
+-- a pool is offered: the stage is 1
 abbrev pub isOffered : Session → Bool
 isOffered s = eqb (s .stage) 1
 
@@ -22,17 +22,17 @@ isOffered s = eqb (s .stage) 1
 abbrev pub isActive : Session → Bool
 isActive s = eqb (s .active) 1
 
--- a stage's end sets the announced size and what was received to 0 with it
+-- the end of a stage: the announced size and the count of received bytes become 0, too
 abbrev pub ended : Session → Session
 ended s = record { announced = 0; received = 0; kept = s .kept; stage = 0; active = s .active }
 
--- whether one of some tests holds
+-- whether at least one of the tests holds
 abbrev pub anyOf : List Bool → Bool
 anyOf [] = false
 anyOf (t ∷ ts) = t || anyOf ts
 
--- why a value can't arise: a number that is no stage, or says neither active nor not; a size over 65,535; an offer of nothing; more
--- received than announced; a pool active that is not kept; something announced or received at stage none
+-- what makes a value impossible: a stage or active mark other than 0 and 1; a size over 65,535; an offer of size 0; more bytes received
+-- than announced; active with no pool kept; bytes announced or received though nothing is offered
 abbrev pub causes : Session → List Bool
 causes s =
     ltb 1 (s .stage)
@@ -55,19 +55,19 @@ pub record Told : Type 0 where
   pub session : Session
   pub reply : Reply
 
--- a step by its value and the reply that its answer stands for
+-- a step as its session value and its answer's reply
 abbrev pub stepOf : Step → Told
 stepOf r = record { session = r .session; reply = replyOf (r .answer) }
 
--- a refusal by its number, the value as it was; and a call that is done, with a value
+-- a refusal with its number; the session value is as it was
 abbrev pub refused : Session → ℕ → Told
 refused s n = record { session = s; reply = reply n 0 }
 
--- a call that is done, with the value that it leaves
+-- a call that succeeds, with the session value that it returns
 abbrev pub done : Session → Told
 done s = record { session = s; reply = reply 0 0 }
 
--- any call: 27 before all else
+-- any call: 27 for an impossible session value comes before everything else
 abbrev pub judged : Session → Told → Told
 judged s t = cond (impossible s) (refused s 27) t
 
@@ -88,21 +88,21 @@ transferOf s piece ls =
     (cond (ltb ls (s .announced)) (refused s 26)
     (done (record { announced = s .announced; received = s .received + length piece; kept = s .kept; stage = 1; active = s .active })))))
 
--- staging then has the piece from received on, unless it was refused
+-- staging afterwards: the piece follows the bytes already received, unless it was refused
 unfoldable pub stagingAfter : Session → List ℕ → List ℕ → List ℕ
 stagingAfter s piece staging =
     cond (eqb (transferOf s piece (length staging) .reply .number) 0)
     (sets staging (s .received) piece)
     staging
 
--- deactivating: 25 where nothing is active
+-- deactivating: 25 if nothing is active
 unfoldable pub deactivateOf : Session → Told
 deactivateOf s =
     judged s
     (cond (eqb (s .active) 0) (refused s 25)
     (done (record { announced = s .announced; received = s .received; kept = s .kept; stage = s .stage; active = 0 })))
 
--- deleting: as new
+-- deleting: the session value is that of a new session
 unfoldable pub deleteOf : Session → Told
 deleteOf s = judged s (done newSession)
 

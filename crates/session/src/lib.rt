@@ -5,7 +5,7 @@ ghost use lib.ListN.{length};
 ghost use Rattle.session.specs.Answers.{reply, replyOf, replyIn};
 ghost use Rattle.session.specs.Calls.{isOffered, newSession, ended, impossible, stepOf, offerOf, transferOf, stagingAfter, deactivateOf, deleteOf, lostOf};
 
-// Stage 0 is none and 1 offered; active is 0 or 1. Any other number makes a value that can't arise.
+// Stage 0 is none and 1 offered; active is 0 or 1. A value with any other number is impossible.
 #[repr(C)]
 pub struct Session {
     pub announced: u32,
@@ -15,7 +15,7 @@ pub struct Session {
     pub active: u16,
 }
 
-// What a call answers. The refusals stand in the order of their numbers: 3 to 7 from reading the pool, then 20 to 27.
+// What a call answers. The refusals are in the order of their numbers: 3 to 7 from reading the pool, then 20 to 27.
 pub enum Answer {
     Done,
     NoMark(usize),
@@ -59,7 +59,7 @@ pub fn new() -> Session
     }
 }
 
-// Whether no list of calls leads to a value.
+// Whether a session value is impossible: no list of calls leads to it.
 pub fn is_impossible(s: Session) -> bool
     ensures { λ r. ⌜ r ≡ impossible s ⌝ }
 {
@@ -80,7 +80,7 @@ pub fn refuse(s: Session, answer: Answer) -> Step
     Step { session: s, answer }
 }
 
-// Ends a stage: the offer and what arrived of it are forgotten.
+// Ends a stage: the offer and the bytes that have arrived are forgotten.
 pub fn end_stage(s: Session) -> Session
     ensures { λ r. ⌜ r ≡ ended s ⌝ }
 {
@@ -118,7 +118,7 @@ pub fn offer(s: Session, size: usize, staging: &[u8], kept: &[u8]) -> Step
     }
 }
 
-// Takes a piece: it is copied behind what has been received.
+// Takes a piece of the pool: it is copied into staging after the bytes already received.
 pub fn transfer(s: Session, piece: &[u8], staging: &mut [u8]) -> Step
     ensures { λ r. ⌜ (stepOf r ≡ transferOf s (now (piece .entry)) (length (now (staging .entry)))) × (now (staging .exit) ≡ stagingAfter s (now (piece .entry)) (now (staging .entry))) ⌝ }
 {
@@ -214,7 +214,7 @@ fn plain(number: u32, place: usize) -> Numbers
     }
 }
 
-// Document 01's number for an answer, with the place or the first fault that goes with it; zeros else.
+// Document 01's number for an answer, with its place or first fault; zeros if it has none.
 pub fn numbers_of(answer: Answer) -> Numbers
     ensures { λ r. ⌜ replyIn r ≡ replyOf answer ⌝ }
 {

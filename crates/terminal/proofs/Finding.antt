@@ -1,4 +1,4 @@
--- `lachsbrille_text`, at a list of either length. Assumes nothing.
+-- `lachsbrille_text`, with a list of either length. Assumes nothing.
 use Rattle.working_table.proofs.Over.{_≡_, refl, sym, subst, List, [], _∷_, ℕ, length, replicate, URA, fullShare, Name, Fn, SProp, emp, Model, Routines, Heap, Closed, factI, GhostRules, Running, givenOf, tables, tripleOf, Contract, Triple, cited, Line, Carried, struct-of, uint-of, list-typed, made, R, Size, pTy, tTy, fill-lines, Rest, Over, fills-over, named, mut, erased, w64, tyInt, tyRef, plain, mutRefTo, usize, mut-tells, yes, ref, refers, w32, vint, has, uint-tells, uint-lawful, u32}
 use Rattle.working_table.proofs.gather.Symbol as gather-def
 use Rattle.pool.specs.Walk.{Listed}

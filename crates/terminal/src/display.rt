@@ -1,10 +1,10 @@
-// The displayed value for C: a presentation as its three fields, and the value put into a lent f64.
+// The displayed value for C: a presentation is passed as its three fields, and the value is written to a lent f64.
 use presentation::Presentation;
 ghost use mathlib.Core.Path.{_≡_};
 ghost use lib.Dec.{leb};
 ghost use Rattle.terminal.specs.Display.{Shows, presented};
 
-// A number of decimals in 8 bits: 255 stands for every greater one, and is out of range as they are.
+// The number of decimals in 8 bits: every number above 255 becomes 255, which is out of range too.
 fn decimals_in(decimals: u32) -> u8
     ensures { λ r. ⌜ leb r 7 ≡ leb decimals 7 ⌝ }
 {
@@ -14,7 +14,7 @@ fn decimals_in(decimals: u32) -> u8
     decimals as u8
 }
 
-// The result is 0, or 50 with a value of 0 where the scale or the decimals are out of range.
+// The result is 0, or 50 with a value of 0 if the scale or the decimals are out of range.
 #[no_mangle]
 pub extern "C" fn lachsbrille_displayed(
     value: i32,

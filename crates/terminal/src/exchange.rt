@@ -45,7 +45,7 @@ pub extern "C" fn lachsbrille_message_write_acknowledge(
     messages::number_of(messages::write_acknowledge(to, element, ddi, errors, answered))
 }
 
-// Judges a command to the device: the error byte goes into the lent byte, 0 where the call is refused.
+// Judges a command to the device. The error byte is written to the lent byte, 0 if the call is refused.
 #[no_mangle]
 pub extern "C" fn lachsbrille_judge(
     p: &[u8],

@@ -1,5 +1,5 @@
-// The C interface: numbers and lent memory. A refusal is its number; what goes with it is put into a lent number. The working
-// table is a lent slice of records.
+// The C interface: numbers and lent memory. A call returns 0 or the number of a refusal; a count or a place is written to a lent
+// number. The working table is a lent slice of records.
 use queries::DeviceLabels;
 use working_table::Record;
 
@@ -28,7 +28,7 @@ pub extern "C" fn lachsbrille_version() -> u32
     10000
 }
 
-// Reads a pool into the table: the count of records or the refusal's place goes into the lent number.
+// Reads a pool into the table. The count of records or the refusal's place is written to the lent number.
 #[no_mangle]
 pub extern "C" fn lachsbrille_read(p: &[u8], table: &mut [Record], value: &mut usize) -> u32
     ensures { λ r. ⌜ Says (readOf (now (p .entry)) (length (now (table .entry)))) r (now (value .exit)) × (now (table .exit) ≡ recordsAfter (now (p .entry)) (now (table .entry))) ⌝ }
@@ -39,7 +39,7 @@ pub extern "C" fn lachsbrille_read(p: &[u8], table: &mut [Record], value: &mut u
     pools::read_long(p, table, value)
 }
 
-// Checks a pool: the full count of faults or the refusal's place goes into the lent number.
+// Checks a pool. The full count of faults or the refusal's place is written to the lent number.
 #[no_mangle]
 pub extern "C" fn lachsbrille_check(
     p: &[u8],
@@ -63,7 +63,7 @@ pub extern "C" fn lachsbrille_text_is_sound(s: &[u8]) -> bool
     text::is_sound(s)
 }
 
-// Where the text of the first record with an ID stands in the pool: from one lent place up to the other.
+// Finds the text of the first record with an ID. The places in the pool where it begins and ends are written to the lent numbers.
 #[no_mangle]
 pub extern "C" fn lachsbrille_text(
     p: &[u8],

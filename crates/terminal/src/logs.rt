@@ -1,4 +1,4 @@
-// Log records for C: read and written, and whole logs read. A refusal is the number in what is given back.
+// Log records for C: read and written, and whole logs read. The struct that is returned has the number of a refusal.
 use log_reading::Log;
 use log_reading::Record;
 use log_writing::Written;
@@ -35,8 +35,8 @@ pub extern "C" fn lachsbrille_log_read_record(
     log_reading::read_record(bytes, layout, logged, ordinals, values)
 }
 
-// Writes a record of the first so many ordinals and values. The fields come behind a reference: by value, each machine would pass a
-// struct of their size in its own way.
+// Writes a record of the first `count` ordinals and values. The fields are passed by reference: x86-64 and aarch64 pass a struct of
+// their size by value in different ways.
 #[no_mangle]
 pub extern "C" fn lachsbrille_log_write_record(
     to: &mut [u8],

@@ -1,4 +1,4 @@
-// The fields of a record for C, by a pool and the place where the record starts. Texts and labels are places in the pool.
+// The fields of a record for C, from the pool and the place where the record starts. Texts and labels are given as places in the pool.
 use records::Device;
 use records::DeviceElement;
 use records::ProcessData;
@@ -21,7 +21,7 @@ pub extern "C" fn lachsbrille_read_element(p: &[u8], start: u16) -> DeviceElemen
     views::device_element(p, start)
 }
 
-// An entry of a device element's list, counted from 0: the ID that it names.
+// The ID that an entry of a device element's list names. Entries are counted from 0.
 #[no_mangle]
 pub extern "C" fn lachsbrille_read_entry(p: &[u8], start: u16, n: u16) -> u16
     ensures { λ r. ⌜ r ≡ entryOf (now (p .entry)) start n ⌝ }
@@ -43,7 +43,7 @@ pub extern "C" fn lachsbrille_read_property(p: &[u8], start: u16) -> Property
     views::property(p, start)
 }
 
-// The scale comes as its bits, as it stands in the pool.
+// The scale is given as its bits, as in the pool.
 #[no_mangle]
 pub extern "C" fn lachsbrille_read_presentation(p: &[u8], start: u16) -> ValuePresentation
     ensures { λ r. ⌜ r ≡ presentationOf (now (p .entry)) start ⌝ }

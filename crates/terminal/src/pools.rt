@@ -1,6 +1,6 @@
-// What the C functions over the table are made of. A pool is looked at once, with a list of its records' starts; the answer goes out as
+// The parts of the C functions that take a table. A pool is read once, into a list of its records' starts; the answer is returned as
 // numbers, and the table is filled by that list. There is a list for a pool of at most 12,276 bytes, and one for every pool: a record has
-// at least 12 bytes, and the end of the last stands behind the starts.
+// at least 12 bytes, and the starts are followed by the end of the last record.
 use c_answers::StepFields;
 use session::Session;
 use working_table::Record;
@@ -20,7 +20,7 @@ ghost use Rattle.c_answers.specs.Steps.{stepIn};
 ghost use Rattle.c_answers.specs.Numbers.{Says};
 ghost use Rattle.terminal.specs.Texts.{Gives};
 
-// An answer's number, beside how many entries of the table are then filled.
+// The number of an answer, and how many entries of the table have to be filled.
 pub struct Told {
     pub records: usize,
     pub number: u32,
@@ -38,7 +38,7 @@ pub fn told_number(told: Told) -> u32
     told.number
 }
 
-// Reads a pool: the count of records or the refusal's place goes into the lent number.
+// Reads a pool. The count of records or the refusal's place is written to the lent number.
 pub fn read_told(p: &[u8], room: usize, starts: &mut [u16], value: &mut usize) -> Told
     requires { ⌜ Reaches (now starts) (now p) ⌝ }
     ensures { λ r. ⌜ Says (readOf (now (p .entry)) room) (r .number) (now (value .exit)) × (r .records ≡ countOf (now (p .entry)) room) × Listed (now (p .entry)) room (now (starts .exit)) ⌝ }
@@ -50,7 +50,7 @@ pub fn read_told(p: &[u8], room: usize, starts: &mut [u16], value: &mut usize) -
     }
 }
 
-// Checks a pool: the full count of faults or the refusal's place goes into the lent number.
+// Checks a pool. The full count of faults or the refusal's place is written to the lent number.
 pub fn check_told(
     p: &[u8],
     room: usize,
@@ -68,7 +68,7 @@ pub fn check_told(
     }
 }
 
-// Finds a text: where it stands in the pool goes into the lent places.
+// Finds a text. The places in the pool where it begins and ends are written to the lent numbers.
 pub fn text_told(
     p: &[u8],
     room: usize,
@@ -87,7 +87,7 @@ pub fn text_told(
     }
 }
 
-// Judges a command: the error byte goes into the lent byte.
+// Judges a command. The error byte is written to the lent byte.
 pub fn judge_told(
     p: &[u8],
     room: usize,
@@ -109,7 +109,7 @@ pub fn judge_told(
     }
 }
 
-// What activating answers, beside how many entries of the table are then filled.
+// The answer of activating, and how many entries of the table have to be filled.
 pub struct Stepped {
     pub records: usize,
     pub step: StepFields,
@@ -127,7 +127,7 @@ pub fn stepped_step(stepped: Stepped) -> StepFields
     stepped.step
 }
 
-// Activates: the step goes out as numbers.
+// Activates a pool. The step is returned as numbers.
 pub fn activate_told(
     s: Session,
     staging: &[u8],
@@ -146,7 +146,7 @@ pub fn activate_told(
     }
 }
 
-// Each of them over the table, by a list of either length.
+// Each of these over the table, with a short list (`_short`) or with one that is long enough for every pool (`_long`).
 pub fn read_short(p: &[u8], table: &mut [Record], value: &mut usize) -> u32
     requires { ⌜ length (now p) ≤ 12276 ⌝ }
     ensures { λ r. ⌜ Says (readOf (now (p .entry)) (length (now (table .entry)))) r (now (value .exit)) × (now (table .exit) ≡ recordsAfter (now (p .entry)) (now (table .entry))) ⌝ }

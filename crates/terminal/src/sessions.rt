@@ -1,4 +1,4 @@
-// A client's session for C: the value is the session's own, and the step goes out as numbers.
+// A client's session for C: the session value is the same as in Rattle, and the step is returned as numbers.
 use c_answers::StepFields;
 use session::Session;
 use working_table::Record;
@@ -29,7 +29,7 @@ pub extern "C" fn lachsbrille_session_offer(
     c_answers::give_step(session::offer(s, size, staging, kept))
 }
 
-// Takes a piece into staging.
+// Copies a piece of the pool into staging.
 #[no_mangle]
 pub extern "C" fn lachsbrille_session_transfer(
     s: Session,
@@ -62,7 +62,7 @@ pub extern "C" fn lachsbrille_session_activate(
     super::pools::stepped_step(stepped)
 }
 
-// Ends being active.
+// Deactivates the pool.
 #[no_mangle]
 pub extern "C" fn lachsbrille_session_deactivate(s: Session) -> StepFields
     ensures { λ r. ⌜ stepIn r ≡ deactivateOf s ⌝ }
@@ -78,7 +78,7 @@ pub extern "C" fn lachsbrille_session_delete(s: Session) -> StepFields
     c_answers::give_step(session::delete(s))
 }
 
-// The connection is lost.
+// The connection is lost: no pool is active, an offer is forgotten, and a kept pool stays kept.
 #[no_mangle]
 pub extern "C" fn lachsbrille_session_lost(s: Session) -> StepFields
     ensures { λ r. ⌜ stepIn r ≡ lostOf s ⌝ }

@@ -1,4 +1,4 @@
--- The examiner and the grammar say the same. Assumes nothing.
+-- The examiner and the grammar agree. Assumes nothing.
 use mathlib.Core.Path.{_≡_, refl, sym, ap, _∙_}
 use mathlib.Core.Bool.{Bool, true, false, cond, _&&_, true≢false, and-false}
 use mathlib.Core.List.{List, [], _∷_}

@@ -1,4 +1,4 @@
--- The row that a first byte leads to. Assumes nothing.
+-- The row of the grammar that a first byte selects. Assumes nothing.
 use mathlib.Core.Path.{_≡_, sym, ap, _∙_}
 use mathlib.Core.Bool.{Bool, true, false, cond, _&&_, and-false}
 use Prim.Native.Nat.{ℕ, _≤_, _<_}

@@ -1,4 +1,4 @@
--- Bytes that a word of them shows to be below 80. Assumes nothing.
+-- Eight bytes read as one word, and what that shows about which of them are below 0x80. Assumes nothing.
 use mathlib.Core.Path.{_≡_, refl, sym, ap, ap₂, _∙_}
 use mathlib.Core.List.{List}
 use Prim.Native.Nat.{ℕ, zero, suc, _+_, _*_, _-_, _≤_, _<_}

@@ -6,17 +6,17 @@ use lib.Dec.{eqb}
 use lib.ListN.{getD}
 use Rattle.text.specs.Octets.{width}
 
--- how many characters a text has, if it has none but characters
+-- how many characters a text has, or that it is malformed
 pub data Counted : Type 0 where
   Characters : ℕ → Counted
   Malformed : Counted
 
--- n characters before
+-- a count with n characters more
 abbrev pub plus : ℕ → Counted → Counted
 plus n (Characters m) = Characters (n + m)
 plus n Malformed = Malformed
 
--- the characters of a text, k bytes into which a character ends
+-- the characters of a text whose first k bytes belong to a character that has been counted
 unfoldable pub charactersIn : ℕ → List ℕ → Counted
 unfolding width
 charactersIn k [] = Characters 0
@@ -25,6 +25,6 @@ charactersIn zero (a ∷ s) =
     cond (eqb w 0) Malformed (plus 1 (charactersIn (w - 1) s))
 charactersIn (suc k) (a ∷ s) = charactersIn k s
 
--- the character that begins at a place of a text; a byte past the end counts as 0, which continues nothing
+-- the width of the character at a place of a text; a byte past the end counts as 0, which continues no character
 abbrev pub widthAt : List ℕ → ℕ → ℕ
 widthAt s i = width (getD s i 0) (getD s (i + 1) 0) (getD s (i + 2) 0) (getD s (i + 3) 0)

@@ -24,7 +24,7 @@ pub data Char : List ℕ → Type 0 where
   three : {a b c : ℕ} → Three a b c → Char (a ∷ b ∷ c ∷ [])
   four : {a b c d : ℕ} → Four a b c d → Char (a ∷ b ∷ c ∷ d ∷ [])
 
--- UTF8-octets, with how many characters there are
+-- UTF8-octets, with the number of characters
 pub data Text : List ℕ → ℕ → Type 0 where
   none : Text [] 0
   more : {c s : List ℕ} {n : ℕ} → Char c → Text s n → Text (c ++ s) (suc n)

@@ -3,7 +3,7 @@ use Prim.Native.Nat.{ℕ}
 use mathlib.Core.Bool.{Bool, true, false, cond, _&&_}
 use lib.Dec.{leb}
 
--- a byte from one value to another
+-- a byte within a range, both limits included
 abbrev pub within : ℕ → ℕ → ℕ → Bool
 within lo hi b = leb lo b && leb b hi
 
@@ -11,7 +11,7 @@ within lo hi b = leb lo b && leb b hi
 abbrev pub tail : ℕ → Bool
 tail b = within 0x80 0xBF b
 
--- a row: the first byte's range and the second's; the bytes behind these are tails
+-- a row: the first byte's range and the second's
 abbrev pub row2 : ℕ → ℕ → ℕ → ℕ → ℕ → ℕ → Bool
 row2 lo hi lo′ hi′ a b = within lo hi a && within lo′ hi′ b
 
@@ -19,11 +19,11 @@ row2 lo hi lo′ hi′ a b = within lo hi a && within lo′ hi′ b
 abbrev pub row3 : ℕ → ℕ → ℕ → ℕ → ℕ → ℕ → ℕ → Bool
 row3 lo hi lo′ hi′ a b c = row2 lo hi lo′ hi′ a b && tail c
 
--- and with a fourth
+-- the same with a fourth byte, which is a tail
 abbrev pub row4 : ℕ → ℕ → ℕ → ℕ → ℕ → ℕ → ℕ → ℕ → Bool
 row4 lo hi lo′ hi′ a b c d = row3 lo hi lo′ hi′ a b c && tail d
 
--- how many bytes the character has that begins with these four, and 0 where none does: the rows in the RFC's order
+-- the width in bytes of the character that these four bytes begin with, 0 if they begin with none: the rows in the RFC's order
 unfoldable pub width : ℕ → ℕ → ℕ → ℕ → ℕ
 width a b c d =
     cond (within 0x00 0x7F a) 1

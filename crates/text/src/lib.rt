@@ -1,4 +1,4 @@
-// One text: whether it is well-formed UTF-8 (RFC 3629), does not begin with the mark EF BB BF and has at most 32
+// One text: whether it is well-formed UTF-8 (RFC 3629), does not begin with the byte order mark EF BB BF and has at most 32
 // characters.
 ghost use mathlib.Core.Path.{_≡_};
 ghost use mathlib.Core.Bool.{true, cond, _&&_};
@@ -15,7 +15,7 @@ fn within(lo: u8, hi: u8, b: u8) -> bool
     (lo <= b) & (b <= hi)
 }
 
-// The width where the second byte is within a range and the others are tails, else 0.
+// The width of a character if its second byte is within a range and the later ones continue it, else 0.
 fn two_wide(lo: u8, hi: u8, b: u8) -> usize
     ensures { λ r. ⌜ (r ≡ cond (O.within lo hi b) 2 0) × (r ≤ 4) ⌝ }
 {
@@ -74,7 +74,7 @@ fn from_f0(a: u8, b: u8, c: u8, d: u8) -> usize
     0
 }
 
-// How many bytes the character has that begins with these four, 0 where none does. The first byte leads to its row.
+// The width in bytes of the character that these four bytes begin with, 0 if they begin with none. The first byte selects the row.
 fn width(a: u8, b: u8, c: u8, d: u8) -> usize
     ensures { λ r. ⌜ (r ≡ O.width a b c d) × (r ≤ 4) ⌝ }
 {
@@ -93,7 +93,7 @@ fn width(a: u8, b: u8, c: u8, d: u8) -> usize
     from_f0(a, b, c, d)
 }
 
-// Past the text's end stands 0, which continues no character.
+// The width of the character at a place. Bytes past the text's end are read as 0, which continues no character.
 fn width_at(s: &[u8], i: usize) -> usize
     requires { ⌜ i < length (now s) ⌝ }
     ensures { λ r. ⌜ (r ≡ widthAt (now (s .entry)) i) × (r ≤ 4) ⌝ }
@@ -110,7 +110,7 @@ fn width_at(s: &[u8], i: usize) -> usize
     )
 }
 
-// Whether a text is of whole characters, at most 32. It stops at the first thing wrong, a 33rd character too.
+// Whether a text consists of whole characters, at most 32. It stops at the first malformed character or at the 33rd one.
 fn is_few(s: &[u8]) -> bool
     ensures { λ r. ⌜ r ≡ few (charactersIn 0 (now (s .entry))) ⌝ }
 {
@@ -157,7 +157,7 @@ fn highest(s: &[u8]) -> u8
     high
 }
 
-// The bytes of a text one by one.
+// Whether a text is sound, byte by byte.
 fn is_sound_slice(s: &[u8]) -> bool
     ensures { λ r. ⌜ r ≡ soundText (now (s .entry)) ⌝ }
 {
@@ -172,8 +172,8 @@ fn is_sound_slice(s: &[u8]) -> bool
     is_few(s)
 }
 
-// Whether those of 8 bytes are below 80 that are the text's. Byte k of the subtracted word is reach - k, which is 80 or more
-// exactly in the text.
+// Whether, of the 8 bytes from a place on, those that belong to the text are below 0x80. Byte k of `reaches` is reach - k, which is 0x80
+// or more exactly if byte k belongs to the text.
 fn is_single_word(p: &[u8], at: usize, reach: usize) -> bool
     requires { ⌜ (at + 8 ≤ length (now p)) × (7 ≤ reach) × (reach < 256) ⌝ }
     ensures { λ r. ⌜ (r ≡ true → (k : ℕ) → k < 8 → 0x80 + k ≤ reach → getD (now (p .entry)) (at + k) 0 < 0x80) ⌝ }
@@ -182,7 +182,7 @@ fn is_single_word(p: &[u8], at: usize, reach: usize) -> bool
     ((wire::word(p, at) & reaches) & 0x8080808080808080) == 0
 }
 
-// Whether the first n bytes from a place on are below 80. It looks at 32 bytes whatever n is: a branch on the length of a
+// Whether the first n bytes from a place on are below 0x80. It looks at 32 bytes whatever n is: a branch on the length of a
 // text costs more than that.
 fn is_single(p: &[u8], from: usize, n: usize) -> bool
     requires { ⌜ (from + 32 ≤ length (now p)) × (n ≤ 32) ⌝ }
@@ -194,14 +194,14 @@ fn is_single(p: &[u8], from: usize, n: usize) -> bool
         & is_single_word(p, from + 24, n + 103)
 }
 
-// The bytes of a text one by one, by where it stands.
+// Whether the text at a place is sound, byte by byte.
 fn is_sound_part(p: &[u8], from: usize, to: usize) -> bool
     ensures { λ r. ⌜ r ≡ soundText (take (to - from) (drop from (now (p .entry)))) ⌝ }
 {
     is_sound_slice(wire::part(p, from, to))
 }
 
-// Whether a text has at most 32 bytes and so many follow where it begins.
+// Whether a text has at most 32 bytes, and there are at least 32 bytes from its start on.
 fn has_window(len: usize, from: usize, to: usize) -> bool
     ensures { λ r. ⌜ (r ≡ true → (from ≤ to) × (to - from ≤ 32) × (from + 32 ≤ len)) ⌝ }
 {
@@ -217,8 +217,8 @@ fn has_window(len: usize, from: usize, to: usize) -> bool
     32 <= len - from
 }
 
-// The examiner of a text, by where it stands: rule 4. Most texts are short and of single bytes, and then nothing is wrong
-// with them.
+// The examiner of the text at a place: rule 4. Most texts are short and consist of single-byte characters, which is tested first:
+// such a text is sound.
 pub fn is_sound_in(p: &[u8], from: usize, to: usize) -> bool
     ensures { λ r. ⌜ r ≡ soundText (take (to - from) (drop from (now (p .entry)))) ⌝ }
 {
@@ -240,8 +240,8 @@ pub fn is_sound(s: &[u8]) -> bool
     is_sound_in(s, 0, s.len())
 }
 
-// The examiner finds a text sound exactly if the grammar of RFC 3629 derives it, with at most 32 characters and without the
-// mark. The function does nothing: its contract is the claim.
+// The examiner finds a text sound exactly if the grammar of RFC 3629 derives it, with at most 32 characters and without a byte order
+// mark at its start. The function does nothing: its contract is the claim.
 pub fn examined_by_the_grammar()
     ensures { λ _. ⌜ ((s : List ℕ) → Examined s) ⌝ }
 {}

@@ -1,4 +1,4 @@
--- The ones of a number's k lowest bits are its marks below k, at any k. Assumes nothing.
+-- The number of ones among a number's k lowest bits is that of its marks below k, for any k. Assumes nothing.
 use mathlib.Core.Path.{_≡_, refl, sym, ap, _∙_}
 use Prim.Native.Nat.{ℕ, zero, suc, _/_, _%_, _^_, _<_}
 use native.Mathlib.Nat.{mod-one, mod-lt, mod-eq-of-lt, pow-suc, mul-comm, zero-lt-suc}

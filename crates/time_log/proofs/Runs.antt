@@ -1,4 +1,4 @@
--- Bytes that stand a step apart, held against a limit one by one. Assumes nothing.
+-- Bytes at equal distances, compared with a limit one by one. Assumes nothing.
 use mathlib.Core.Path.{_≡_, refl, sym, ap, _∙_}
 use mathlib.Core.Bool.{Bool, true, false, _||_}
 use mathlib.Core.List.{List}

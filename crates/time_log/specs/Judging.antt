@@ -13,12 +13,12 @@ use Rattle.time_log.specs.declared.Fields.{Fields}
 abbrev pub knownStatus : ℕ → Bool
 knownStatus n = leb n 8 || (leb 14 n && leb n 15)
 
--- an ordinal counts the header's log values from 0, and one of these does not
+-- an ordinal counts the header's log values from 0, so it has to be below their count logged: whether one of these ordinals is not
 unfoldable pub anyOver : ℕ → List ℕ → Bool
 anyOver logged [] = false
 anyOver logged (o ∷ os) = leb logged o || anyOver logged os
 
--- 41 time of day, 42 north, 43 east, 44 status, 45 ordinals, in the order of the fields
+-- the refusal of a record's fields, in their order: 41 time of day, 42 north, 43 east, 44 status, 45 ordinals
 unfoldable pub fieldsRefusal : Fields → Bool → ℕ
 fieldsRefusal f over =
     cond (ltb 86399999 (f .time)) 41
@@ -27,7 +27,7 @@ fieldsRefusal f over =
     (cond (not (knownStatus (f .status))) 44
     (cond over 45 0))))
 
--- 47 a layout with a higher bit; 40 the bytes end before the count byte or before the record's end; then the fields
+-- the refusal of a record: 47 for a layout bit above 8; 40 if the bytes end before the count byte or the record's end; then the fields
 unfoldable pub recordRefusal : ℕ → ℕ → List ℕ → ℕ
 recordRefusal layout logged s =
     cond (ltb 511 layout) 47

@@ -1,4 +1,4 @@
--- What functions ensure that only the crates for log records call. Definitions only.
+-- For the contracts of functions that only the crates for log records call. Definitions only.
 use Prim.Native.Nat.{ℕ}
 use mathlib.Core.Path.{_≡_}
 use mathlib.Core.Bool.{Bool, not, cond}
@@ -7,7 +7,7 @@ use Rattle.time_log.specs.Layout.{placeOf}
 use Rattle.time_log.specs.Judging.{knownStatus}
 use Rattle.time_log.specs.declared.Places.{Places}
 
--- the places of the optional fields but the first, and of the count byte
+-- the places of the optional fields except the first, and of the count byte
 pub record Placed (layout : ℕ) (p : Places) : Type 0 where
   pub east : p .east ≡ placeOf layout 1
   pub up : p .up ≡ placeOf layout 2
@@ -19,7 +19,7 @@ pub record Placed (layout : ℕ) (p : Places) : Type 0 where
   pub gps-date : p .«gps_date» ≡ placeOf layout 8
   pub count : p .count ≡ placeOf layout 9
 
--- `fieldsRefusal` of what it looks at: the time, how far north and east are from 0, and the status
+-- `fieldsRefusal` from the values that it looks at: the time, the absolute values of north and east, and the status
 unfoldable pub refusalBy : ℕ → ℕ → ℕ → ℕ → Bool → ℕ
 refusalBy time north east status over =
     cond (ltb 86399999 time) 41

@@ -1,4 +1,4 @@
-// Where the optional fields of a record stand, and what is read there.
+// The places of a record's optional fields, and the fields read there.
 use super::Fields;
 use super::Places;
 ghost use mathlib.Core.Path.{_≡_};
@@ -34,7 +34,7 @@ pub fn places_of(layout: u32) -> Places
     }
 }
 
-// Optional field k as a number: its w bytes at its place, or 0 where it is absent.
+// Optional field k as a number: its w bytes at its place, or 0 if it is absent.
 pub fn part(bytes: &[u8], layout: u32, k: usize, at: usize, w: usize) -> u32
     requires { ⌜ (k ≤ 8) × (at ≡ placeOf layout k) × (w ≡ width k) × (placeOf layout 9 ≤ length (now bytes)) ⌝ }
     ensures { λ r. ⌜ (r ≡ partAt layout (now (bytes .entry)) k) × (r < 256 ^ width k) ⌝ }

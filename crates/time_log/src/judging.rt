@@ -17,7 +17,7 @@ fn known_status(status: u8) -> bool
     (status <= 8) | ((14 <= status) & (status <= 15))
 }
 
-// How far a field of four bytes is from 0 as a signed number.
+// The absolute value of a field of four bytes that is a signed number.
 fn size_of(x: u32) -> u32
     ensures { λ r. ⌜ r ≡ natAbs (signedOf 4 x) ⌝ }
 {
@@ -44,7 +44,7 @@ fn last_over(s: &[u8], at: usize, n: usize, limit: u8) -> bool
     false
 }
 
-// The same for the count of log values as the limit, which no byte reaches from 256 on. One test for four ordinals halves the time.
+// The same with the count of log values as the limit; from 256 on every byte is below it. Testing four ordinals at once halves the time.
 pub fn any_over(s: &[u8], at: usize, n: usize, logged: usize) -> bool
     requires { ⌜ at + 5 * n ≤ length (now s) ⌝ }
     ensures { λ r. ⌜ r ≡ anyOver logged (spaced 5 n (now (s .entry)) at) ⌝ }
@@ -94,7 +94,7 @@ pub fn judged(fields: Fields, over: bool) -> u32
     fields_refusal(fields.time, north, east, fields.status, over)
 }
 
-// Judges a record of a log, of whose fields no more is read than is judged.
+// Judges a record of a log. Of its fields only those are read that are judged.
 pub fn refusal(bytes: &[u8], layout: u32, places: Places, logged: usize) -> u32
     requires { ⌜ (layout ≤ 511) × Placed layout places ⌝ }
     ensures { λ r. ⌜ r ≡ recordRefusal layout logged (now (bytes .entry)) ⌝ }

@@ -1,5 +1,5 @@
-// Log records: time and position, the fields that a layout marks, and log values by their ordinals; where these stand, and what is
-// judged of them.
+// Log records: time and position, the fields that a layout marks, and log values with their ordinals; the places of these, and which
+// of them are judged.
 mod contents;
 mod judging;
 
@@ -13,7 +13,7 @@ ghost use mathlib.Core.Bool.{cond};
 ghost use lib.Dec.{ltb};
 ghost use Rattle.time_log.specs.Layout.{marksSet};
 
-// A record's fields. One that the layout does not mark is 0.
+// A record's fields. A field that the layout does not mark is 0.
 #[repr(C)]
 pub struct Fields {
     pub time: u32,
@@ -51,7 +51,7 @@ pub fn optional_fields(layout: u32) -> Marks
     }
 }
 
-// Where the optional fields stand, each behind those before it, and the count byte behind them all. North is always at 6.
+// The places of the optional fields, which follow each other, and of the count byte after them. North is always at 6.
 pub struct Places {
     pub east: usize,
     pub up: usize,

@@ -1,4 +1,4 @@
--- A record's fields, from what stands at each place. Assumes nothing.
+-- A record's fields, from the bytes at each place. Assumes nothing.
 use mathlib.Core.Path.{_≡_}
 use mathlib.Core.List.{List}
 use Prim.Native.Nat.{ℕ, _+_, _*_}

@@ -13,15 +13,15 @@ use Rattle.records.specs.declared.ProcessData.{ProcessData}
 use Rattle.records.specs.declared.Property.{Property}
 use Rattle.records.specs.declared.ValuePresentation.{ValuePresentation}
 
--- the bytes of a text, and of a field of n bytes
+-- the part of a pool that a text takes, after the length byte at a place
 abbrev pub textAt : List ℕ → ℕ → Span
 textAt p at = record { from = at + 1; to = at + 1 + getD p at 0 }
 
--- so many bytes from a place on
+-- the part of n bytes from a place on
 abbrev pub bytesAt : ℕ → ℕ → Span
 bytesAt n at = record { from = at; to = at + n }
 
--- the bytes that a span takes of a pool
+-- the bytes of a part of a pool
 abbrev pub partOf : List ℕ → Span → List ℕ
 partOf p s = take (s .to - s .from) (drop (s .from) p)
 
@@ -43,7 +43,7 @@ deviceOf p at =
       extended = textAt p (fieldAt Dvc 7 p at);
     }
 
--- those of a device element
+-- the fields of a device element that starts at a place
 unfoldable pub elementOf : List ℕ → ℕ → DeviceElement
 unfolding fieldAt layout
 elementOf p at =
@@ -55,12 +55,12 @@ elementOf p at =
       entries = numberAt 2 p (fieldAt Det 5 p at);
     }
 
--- entry i of a device element's list, from 0, behind the count
+-- entry i of a device element's list, counted from 0; the entries follow their count
 unfoldable pub entryOf : List ℕ → ℕ → ℕ → ℕ
 unfolding fieldAt layout
 entryOf p at i = numberAt 2 p (fieldAt Det 5 p at + 2 + 2 * i)
 
--- those of process data
+-- the fields of process data that starts at a place
 unfoldable pub processDataOf : List ℕ → ℕ → ProcessData
 unfolding fieldAt layout
 processDataOf p at =
@@ -72,7 +72,7 @@ processDataOf p at =
       presentation = numberAt 2 p (fieldAt Dpd 5 p at);
     }
 
--- those of a property
+-- the fields of a property that starts at a place
 unfoldable pub propertyOf : List ℕ → ℕ → Property
 unfolding fieldAt layout
 propertyOf p at =
@@ -83,7 +83,7 @@ propertyOf p at =
       presentation = numberAt 2 p (fieldAt Dpt 4 p at);
     }
 
--- those of a value presentation
+-- the fields of a value presentation that starts at a place
 unfoldable pub presentationOf : List ℕ → ℕ → ValuePresentation
 unfolding fieldAt layout
 presentationOf p at =

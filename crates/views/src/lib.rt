@@ -1,5 +1,5 @@
-// The fields of the record that starts at a place, by value. A place is 16 bits, as every record's start is. Of a record
-// that is not whole, bytes past the pool's end read as 0. Every public function takes any bytes and any place.
+// The fields of the record that starts at a place, by value. A place has 16 bits, as every record's start does. If the record
+// is not whole, bytes past the pool's end are read as 0. Every public function takes any bytes and any place.
 use records::Device;
 use records::DeviceElement;
 use records::ProcessData;
@@ -13,7 +13,7 @@ ghost use Rattle.wire.specs.Bytes.{numberAt};
 ghost use Rattle.wire.specs.Parts.{placeIn};
 ghost use Rattle.views.specs.Fields.{textAt, partOf, startIn, deviceOf, elementOf, entryOf, processDataOf, propertyOf, presentationOf};
 
-// The text behind the length byte at a place.
+// The place of the text after the length byte at a place.
 fn text(p: &[u8], at: usize) -> Span
     requires { ⌜ at < 131072 ⌝ }
     ensures { λ r. ⌜ (r ≡ textAt (now (p .entry)) at) × (r .to ≤ at + 256) ⌝ }
@@ -25,8 +25,8 @@ fn text(p: &[u8], at: usize) -> Span
     }
 }
 
-// The bytes of a span that lie in the pool, as a slice of the pool that was lent. Also where it is empty it points to the span's start, or
-// to the pool's end where the span starts behind it.
+// The bytes of a span that are within the pool, as a slice of the lent pool. Even an empty part points to the span's start, or to the
+// pool's end if the span starts past it.
 pub fn part<'a>(p: &'a [u8], s: Span) -> &'a [u8]
     ensures { λ r. ⌜ (now r ≡ partOf (now (p .entry)) s) × (ptr r ≡ placeIn (p .entry) (startIn (now (p .entry)) s)) ⌝ }
 {
@@ -86,7 +86,7 @@ pub fn device_element(p: &[u8], at: u16) -> DeviceElement
     }
 }
 
-// An entry ID of a device element's list, counted from 0.
+// The ID that entry i of a device element's list names, counted from 0.
 pub fn entry(p: &[u8], at: u16, i: u16) -> u16
     ensures { λ r. ⌜ r ≡ entryOf (now (p .entry)) at i ⌝ }
 {
@@ -97,7 +97,7 @@ pub fn entry(p: &[u8], at: u16, i: u16) -> u16
     wire::read_u16(p, count_at + 2 + 2 * i as usize)
 }
 
-// Where the entry IDs of a device element's list begin.
+// The place where the entries of a device element's list begin.
 pub fn entries_from(p: &[u8], at: u16) -> usize
     ensures { λ r. ⌜ ((m : ℕ) → entryOf (now (p .entry)) at m ≡ numberAt 2 (now (p .entry)) (r + 2 * m)) × (r ≤ 65535 + 268) ⌝ }
 {

@@ -1,4 +1,4 @@
--- Tests of two, taken apart, and a proof for each answer of a test. Assumes nothing.
+-- Laws about combinations of two tests, and proofs by cases of a test. Assumes nothing.
 use mathlib.Core.Path.{_≡_, refl}
 use mathlib.Core.Bool.{Bool, true, false, _&&_, _||_, true≢false, and-eq-true-iff}
 

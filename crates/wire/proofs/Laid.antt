@@ -1,4 +1,4 @@
--- Laws of laying bytes over others. Assumes nothing.
+-- Laws about writing bytes over others. Assumes nothing.
 use mathlib.Core.Path.{_≡_, refl, sym, ap, _∙_}
 use mathlib.Core.List.{List, [], _∷_, _++_}
 use mathlib.Core.Bool.{Bool, true, false}

@@ -11,7 +11,7 @@ use lib.Seq.{sets}
 abbrev pub Octets : List ℕ → Type 0
 Octets s = (i : ℕ) → getD s i 0 < 256
 
--- the number that bytes stand for, the lowest first
+-- the number that bytes represent, the lowest byte first
 unfoldable pub leOf : List ℕ → ℕ
 leOf [] = 0
 leOf (b ∷ bs) = b + leOf bs * 256
@@ -29,11 +29,11 @@ numberAt w s at = leOf (take w (drop at s))
 unfoldable pub signedOf : ℕ → ℕ → ℤ
 signedOf w x = cond (ltb (2 * x) (256 ^ w)) (pos x) (negsuc (256 ^ w - suc x))
 
--- a signed number as w bytes, likewise
+-- the number whose w bytes represent a signed number, likewise
 unfoldable pub bitsOf : ℕ → ℤ → ℕ
 bitsOf w (pos n) = n
 bitsOf w (negsuc n) = 256 ^ w - suc n
 
--- bytes laid over others from a place on, or nothing changed where they do not fit
+-- bytes with others written over them from a place on; unchanged if these do not fit
 unfoldable pub laid : List ℕ → ℕ → List ℕ → List ℕ
 laid d at bs = cond (leb (at + length bs) (length d)) (sets d at bs) d

@@ -3,7 +3,7 @@ use Prim.Native.Nat.{ℕ, _+_}
 use mathlib.Core.List.{List, [], _∷_, _++_}
 use denote.Ref.{RefT, ptr}
 
--- the parts one behind the other, as one list of bytes
+-- the parts one after the other, as one list of bytes
 abbrev pub joined : List (List ℕ) → List ℕ
 joined [] = []
 joined (r ∷ rs) = r ++ joined rs

@@ -1,5 +1,5 @@
-// Little-endian numbers in bytes, parts of bytes, and copying. Every public function takes any slice, place and number but `number`, `word`,
-// `pair` and `put`, whose callers know that the bytes are there.
+// Little-endian numbers in bytes, parts of bytes, and copying. Every public function takes any slice, place and number, except `number`,
+// `word`, `pair` and `put`, whose callers know that the bytes are within the slice.
 ghost use mathlib.Core.Path.{_≡_};
 ghost use Prim.Native.Nat.{_+_, _-_, _≤_, _<_, _^_, min};
 ghost use lib.Dec.{leb};
@@ -10,7 +10,7 @@ ghost use Rattle.wire.specs.Bytes.{bytesOf, numberAt, signedOf, bitsOf, 
 ghost use Rattle.wire.specs.Parts.{placeIn};
 ghost use Rattle.wire.specs.ReadBack.{Unsigned, Signed32};
 
-// The number in w bytes that are all there: from the highest byte down.
+// The number in w bytes that are all within the slice, computed from the highest byte down.
 pub fn number(s: &[u8], at: usize, w: usize) -> u64
     requires { ⌜ (w ≤ 8) × (at + w ≤ length (now s)) ⌝ }
     ensures { λ r. ⌜ (r ≡ numberAt w (now (s .entry)) at) × (r < 256 ^ w) ⌝ }
@@ -24,7 +24,7 @@ pub fn number(s: &[u8], at: usize, w: usize) -> u64
     x
 }
 
-// The number in w bytes, of which those past the end are missing.
+// The number in w bytes; those past the end are left out.
 fn number_at(s: &[u8], at: usize, w: usize) -> u64
     requires { ⌜ w ≤ 8 ⌝ }
     ensures { λ r. ⌜ (r ≡ numberAt w (now (s .entry)) at) × (r < 256 ^ w) ⌝ }
@@ -66,7 +66,7 @@ pub fn read_u64(s: &[u8], at: usize) -> u64
     number_at(s, at, 8)
 }
 
-// The same where the caller knows that all 8 bytes are there, without a test.
+// The same if the caller knows that all 8 bytes are within the slice, without a test.
 pub fn word(s: &[u8], at: usize) -> u64
     requires { ⌜ at + 8 ≤ length (now s) ⌝ }
     ensures { λ r. ⌜ r ≡ numberAt 8 (now (s .entry)) at ⌝ }
@@ -74,7 +74,7 @@ pub fn word(s: &[u8], at: usize) -> u64
     number(s, at, 8)
 }
 
-// The same of two bytes.
+// The same for two bytes.
 pub fn pair(s: &[u8], at: usize) -> u16
     requires { ⌜ at + 2 ≤ length (now s) ⌝ }
     ensures { λ r. ⌜ r ≡ numberAt 2 (now (s .entry)) at ⌝ }
@@ -107,7 +107,7 @@ pub fn read_i32(s: &[u8], at: usize) -> i32
     signed(read_u32(s, at))
 }
 
-// The w lowest bytes of x, where there is room for them.
+// Writes the w lowest bytes of x, if it is known that there is room for them.
 pub fn put(d: &mut [u8], at: usize, w: usize, x: u64)
     requires { ⌜ at + w ≤ length (now d) ⌝ }
     ensures { λ _. ⌜ now (d .exit) ≡ sets (now (d .entry)) at (bytesOf w x) ⌝ }
@@ -131,7 +131,7 @@ fn has_room(len: usize, at: usize, n: usize) -> bool
     n <= len - at
 }
 
-// Writes all w bytes or none, and says which.
+// Writes all w bytes or none, and returns whether they are written.
 fn put_at(d: &mut [u8], at: usize, w: usize, x: u64) -> bool
     ensures { λ r. ⌜ (r ≡ leb (at + w) (length (now (d .entry)))) × (now (d .exit) ≡ laid (now (d .entry)) at (bytesOf w x)) ⌝ }
 {
@@ -177,7 +177,7 @@ fn copy_in(from: &[u8], to: &mut [u8], at: usize)
     }
 }
 
-// Lays one slice over another from a place on, whole or not at all, and says which.
+// Copies one slice into another from a place on, whole or not at all, and returns whether it is copied.
 pub fn copy(from: &[u8], to: &mut [u8], at: usize) -> bool
     ensures { λ r. ⌜ (r ≡ leb (at + length (now (from .entry))) (length (now (to .entry)))) × (now (to .exit) ≡ laid (now (to .entry)) at (now (from .entry))) ⌝ }
 {
@@ -188,8 +188,8 @@ pub fn copy(from: &[u8], to: &mut [u8], at: usize) -> bool
     false
 }
 
-// The bytes from one place to another, those that are there, as a slice of what was lent; none where the second place is before the first.
-// Even an empty part points to the first place, or to the end of the slice where that place is past it.
+// The bytes from one place up to another, as far as they are within the slice, as a part of the lent slice; none if the second place is
+// before the first. Even an empty part points to the first place, or to the end of the slice if that place is past it.
 pub fn part<'a>(s: &'a [u8], from: usize, to: usize) -> &'a [u8]
     ensures { λ r. ⌜ (now r ≡ take (to - from) (drop from (now (s .entry)))) × (ptr r ≡ placeIn (s .entry) (min from (length (now (s .entry))))) ⌝ }
 {

@@ -1,4 +1,4 @@
--- Two steps for a `while` inside a walk by hand. They say nothing of the crate, and can be copied as they stand.
+-- Two steps for a `while` inside a walk by hand. They do not depend on the crate, and can be copied as they are.
 --     while-test       the test of a `while`: it holds and the turn goes on, or it fails and the loop is left
 --     up-to, up-wf     the order on the turns of a loop that counts i from 0 to n: nearer to n is smaller
 --     at-end           and where its test fails, i is n

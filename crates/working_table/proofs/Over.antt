@@ -1,5 +1,5 @@
 -- The law for functions over the table (`filling`), at the table of records: a function whose first parameter is the pool and whose
--- second is the table, that fills it by `gather` from a list of either length; and one that picks such a function by the pool's length.
+-- second is the table, that fills it by `gather` from a list of either length; and one that selects such a function by the pool's length.
 --     Over             the contract, by what is asked of the pool
 --     fills-over       a function with a list of its own meets it
 --     picks-over       a function that picks one meets it

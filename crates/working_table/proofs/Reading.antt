@@ -1,4 +1,4 @@
--- `read`, at a list of either length. Assumes nothing.
+-- `read`, with a list of either length. Assumes nothing.
 use Rattle.working_table.proofs.Over.{_≡_, refl, sym, subst, List, [], _∷_, ℕ, length, replicate, URA, fullShare, Name, Fn, SProp, emp, Model, Memory, Routine, Fun, Routines, Heap, Closed, Atoms, factI, GhostRules, Running, givenOf, tables, Given, tripleOf, Contract, Triple, cited, Line, Carried, enum-of, list-typed, made, R, Size, pTy, tTy, fill-lines, nothing-else, Over, fills-over}
 use Rattle.pool.specs.Answer.{answerOf, recordsIn}
 use Rattle.pool.specs.Reading.{readOf}

@@ -1,4 +1,4 @@
--- The two lengths of a list of starts: 1,024 numbers reach for every record of a pool of at most 12,276 bytes, and 5,462 for those of
+-- The two lengths of a list of starts: 1,024 numbers are enough for every record of a pool of at most 12,276 bytes, and 5,462 for those of
 -- every pool, since a record has at least 12 bytes. Assumes nothing.
 use Prim.Native.Nat.{ℕ, _*_, _≤_, _<_}
 use native.Mathlib.Omega.{arith}

@@ -15,12 +15,12 @@ use Rattle.working_table.specs.declared.Record.{Record}
 abbrev pub recordOf : Entry → Record
 recordOf e = record { start = e .start; length = e .size; kind = e .kind; id = e .id }
 
--- a record of zeros, which stands for what lies past a table's end
+-- a record of zeros, as the entry past a table's end
 abbrev pub blank : Record
 blank = record { start = 0; length = 0; kind = 0; id = 0 }
 
--- the table after reading: one entry for each record from its start where the pool is read, later entries as they were; else
--- unchanged. It has room for as many records as it has entries
+-- the table after reading: if the pool is read, it starts with an entry for each record, and later entries are as they were; else it
+-- is unchanged. It has room for as many records as it has entries
 unfoldable pub recordsAfter : List ℕ → List Record → List Record
 recordsAfter p table = cond (eqb (readOf p (length table) .number) 0) (sets table 0 (map recordOf (entriesIn (scanOf p)))) table
 

@@ -1,5 +1,5 @@
-// The working table: a lent slice of records, one entry for each record of a pool. A pool is judged first, so that a refusal
-// leaves the table as it was. Then it is filled from the pool, by the starts of the records that judging listed.
+// The working table: a lent slice of records, one entry for each record of a pool. The pool is read first, so that a refusal
+// leaves the table as it was. Then the table is filled from the pool, by the starts of the records that reading has listed.
 use pool::Outcome;
 use records::view;
 ghost use mathlib.Core.Path.{_≡_};
@@ -19,7 +19,7 @@ pub struct Record {
     pub id: u16,
 }
 
-// The entry of record i, which ends where the next one starts. Whoever calls knows that the record can be read, so nothing is tested.
+// The entry of record i, which ends where the next one starts. The caller knows that the record can be read, so nothing is tested.
 fn row_at(p: &[u8], starts: &[u16], i: usize) -> Record
     requires { ⌜ Stands (now p) (now starts) i ⌝ }
     ensures { λ r. ⌜ r ≡ rowIn (now (p .entry)) (now (starts .entry)) i ⌝ }
@@ -34,8 +34,8 @@ fn row_at(p: &[u8], starts: &[u16], i: usize) -> Record
     }
 }
 
-// Fills the first so many entries from the pool, by a list of its records' starts. Later entries stay. The function that made the list
-// has shown that the table has so many entries and that each record can be read.
+// Fills the first `count` entries from the pool, by a list of its records' starts. Later entries are left as they were. It requires that
+// the table has that many entries and that each record can be read; the promise of the function that made the list shows this.
 pub fn gather(p: &[u8], starts: &[u16], count: usize, table: &mut [Record])
     requires { ⌜ Fillable (now p) (now starts) count (now table) ⌝ }
     ensures { λ _. ⌜ now (table .exit) ≡ gathered (now (p .entry)) (now (starts .entry)) count (now (table .entry)) ⌝ }
@@ -47,17 +47,17 @@ pub fn gather(p: &[u8], starts: &[u16], count: usize, table: &mut [Record])
     }
 }
 
-// The outcome itself. A function over the table ends with a call that takes its answer out of what the core gave, and here that is
-// all of it.
+// The outcome itself. Every function over the table ends with a call that extracts its answer from what the core returned; here that
+// is all of it.
 fn same(outcome: Outcome) -> Outcome
     ensures { λ r. ⌜ r ≡ outcome ⌝ }
 {
     outcome
 }
 
-// Reading lists the records by their starts in the one walk over the pool, then fills the table by that list. A list with room for
-// every pool takes long to clear, so a short pool gets a short one. A record takes at least 12 bytes, and the end of the last stands
-// behind the starts: 1,024 numbers are enough for 12,276 bytes, and 5,462 for every pool.
+// Reading lists the records by their starts in one walk over the pool, then fills the table by that list. A list with room for every
+// pool takes long to clear, so a short pool gets a short one. A record takes at least 12 bytes, and the starts are followed by the end
+// of the last record: 1,024 numbers are enough for 12,276 bytes, and 5,462 for every pool.
 fn read_short(p: &[u8], table: &mut [Record]) -> Outcome
     requires { ⌜ length (now p) ≤ 12276 ⌝ }
     ensures { λ r. ⌜ Reads (now (p .entry)) r (now (table .entry)) (now (table .exit)) ⌝ }

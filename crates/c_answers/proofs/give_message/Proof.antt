@@ -1,4 +1,4 @@
--- `c_answers::give_message` meets its contract: each way of a message has its fields. Assumes nothing.
+-- `c_answers::give_message` meets its contract: each case of a message has its fields. Assumes nothing.
 use mathlib.Core.Path.{ap, sym, _∙_}
 use mir.Syntax.{w32}
 use mir.ValLaws.{toZ-ofZ}

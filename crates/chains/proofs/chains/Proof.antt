@@ -1,4 +1,4 @@
--- `chains::chains` meets its contract: what stands for each number is that number so many steps up. Assumes nothing.
+-- `chains::chains` meets its contract: the list has for each number where at least the given number of steps up lead. Assumes nothing.
 use mathlib.Core.Path.{_≡_, refl, sym, _∙_, subst}
 use Prim.Native.Nat.{ℕ, _+_, _*_, _-_, _≤_}
 use native.Mathlib.Omega.{arith}

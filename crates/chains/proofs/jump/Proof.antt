@@ -1,4 +1,4 @@
--- `chains::jump` meets its contract: the numbers above r have been doubled. Assumes nothing.
+-- `chains::jump` meets its contract: for the numbers above r the steps are doubled. Assumes nothing.
 use native.Mathlib.Omega.{arith}
 use Rattle.chains.proofs.Jumping.{Jumping, jump-start, jump-more, jump-end}
 use Rattle.chains.proofs.jump.Statement.{statement}

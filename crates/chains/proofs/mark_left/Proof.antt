@@ -1,4 +1,4 @@
--- `chains::mark_left` meets its contract: of the records passed those are marked. Assumes nothing.
+-- `chains::mark_left` meets its contract: among the records passed so far exactly these are marked. Assumes nothing.
 use mathlib.Core.Path.{_≡_, refl, sym, ap, _∙_, subst}
 use mathlib.Core.Bool.{Bool, true, false, not}
 use mathlib.Core.Logic.{⊎-elim}

@@ -1,4 +1,4 @@
--- `chains::mark_numbers` meets its contract: the numbers of the records passed are marked, and those of them that repeat one. Assumes nothing.
+-- `chains::mark_numbers` meets its contract: the element numbers of the records passed so far are marked, and those of these records that repeat one. Assumes nothing.
 use mathlib.Core.Path.{_≡_, refl, sym, _∙_, subst}
 use mathlib.Core.Bool.{Bool, _&&_}
 use mathlib.Core.Logic.{⊎-elim}

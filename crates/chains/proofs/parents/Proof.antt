@@ -1,4 +1,4 @@
--- `chains::parents` meets its contract: the records with numbers below r have been stepped from. Assumes nothing.
+-- `chains::parents` meets its contract: for the records with numbers below r the steps are stored. Assumes nothing.
 use mathlib.Core.Path.{_≡_, refl, sym, subst}
 use mathlib.Core.Bool.{not, _||_}
 use mathlib.Core.Logic.{⊎-elim}

@@ -1,4 +1,4 @@
--- `commands::judge` meets its contract: the pool's length picks one of two functions that have it (`Judging.antt`). Assumes nothing.
+-- `commands::judge` meets its contract: the pool's length selects one of two functions with the same contract (`Judging.antt`). Assumes nothing.
 use Rattle.working_table.proofs.Over.{refl, [], _∷_, cited, givenOf, w16, w32, uint-lawful, asks, short, long, lends-table, picks-over}
 use denote.Signed.{sint-lawful}
 use Rattle.commands.proofs.Judging.{command, judged, judgement, Judging}

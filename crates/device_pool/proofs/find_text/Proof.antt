@@ -1,4 +1,4 @@
--- `device_pool::find_text` meets its contract: the pool's length picks one of two functions that have it (`Finding.antt`). Assumes nothing.
+-- `device_pool::find_text` meets its contract: the pool's length selects one of two functions with the same contract (`Finding.antt`). Assumes nothing.
 use Rattle.working_table.proofs.Over.{refl, [], _∷_, cited, givenOf, w32, uint-lawful, asks, short, long, lends-table, picks-over}
 use Rattle.device_pool.proofs.Finding.{id, found, place, Finding}
 use Rattle.device_pool.proofs.find_text_short.Symbol as short-def

@@ -1,4 +1,4 @@
--- `device_pool::labels` meets its contract: the pool's length picks one of two functions that have it (`Labelling.antt`). Assumes nothing.
+-- `device_pool::labels` meets its contract: the pool's length selects one of two functions with the same contract (`Labelling.antt`). Assumes nothing.
 use Rattle.working_table.proofs.Over.{refl, [], _∷_, cited, asks, short, long, lends-table, nothing-else, picks-over}
 use Rattle.device_pool.proofs.Labelling.{shown, shown-labels, Labelling}
 use Rattle.device_pool.proofs.labels_short.Symbol as short-def

@@ -1,4 +1,4 @@
--- `device_pool::text` meets its contract: a walk of its MIR, by hand. `find_text` gets p and, for good, the table; `queries::text_at` gets p, the place that was found and, for good, the number, and its result, a part of p, is handed on.
+-- `device_pool::text` meets its contract, by a walk of its MIR by hand. `find_text` gets p and, for good, the table; `queries::text_at` gets p, the place that was found and, for good, the number, and its result, a part of p, is returned.
 -- All that the proof knows of the two is that they meet their contracts.
 -- Assumes nothing.
 use mathlib.Core.Path.{_≡_, refl, _∙_, ap, subst}

@@ -1,4 +1,4 @@
--- `judging::find_element` meets its contract: the walk passes the elements that have another number. Assumes nothing.
+-- `judging::find_element` meets its contract: the walk skips the elements that have another number. Assumes nothing.
 use mathlib.Core.Path.{_≡_, refl, sym, ap, _∙_}
 use mathlib.Core.Bool.{cond}
 use mathlib.Core.List.{List}

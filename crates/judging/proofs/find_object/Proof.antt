@@ -1,4 +1,4 @@
--- `judging::find_object` meets its contract: the walk passes the entries that have another DDI or none. Assumes nothing.
+-- `judging::find_object` meets its contract: the walk skips the entries that have another DDI or none. Assumes nothing.
 use mathlib.Core.Path.{_≡_, sym, ap, _∙_}
 use Prim.Native.Nat.{ℕ, suc, _+_, _-_, _≤_}
 use native.Mathlib.Numerals.{add-one}

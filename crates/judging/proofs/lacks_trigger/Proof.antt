@@ -1,4 +1,4 @@
--- `judging::lacks_trigger` meets its contract: bit 0 is what is left of the byte itself, and 6 and 7 are two rows. Assumes nothing.
+-- `judging::lacks_trigger` meets its contract: bit 0 is the byte's own remainder, and commands 6 and 7 are two rows. Assumes nothing.
 use native.Mathlib.Omega.{arith}
 use mathlib.Core.Path.{_≡_}
 use mathlib.Core.Bool.{Bool, false, _&&_, _||_, or-assoc, or-false, and-or-distrib-right}

@@ -1,4 +1,4 @@
--- `log_reading::fill_values` meets its contract: what is still to be stored, stored now, gives the whole. Assumes nothing.
+-- `log_reading::fill_values` meets its contract: the list with the values that are still to be stored is the final one. Assumes nothing.
 use mathlib.Core.Path.{_≡_, refl, _∙_}
 use Prim.Native.Nat.{_+_, _*_, _-_, _≤_}
 use native.Mathlib.Nat.{sub-zero}

@@ -1,4 +1,4 @@
--- `log_reading::read_log` meets its contract: what is left to walk gives the whole walk's answer. Assumes nothing.
+-- `log_reading::read_log` meets its contract: the walk over the bytes that are left gives the answer of the whole walk. Assumes nothing.
 use mathlib.Core.Path.{_≡_, sym, ap, _∙_}
 use Prim.Native.Nat.{ℕ, _+_, _*_, _-_, _≤_, _<_}
 use native.Mathlib.Nat.{sub-zero}

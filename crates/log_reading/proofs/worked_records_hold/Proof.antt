@@ -1,4 +1,4 @@
--- `log_reading::worked_records_hold` meets its contract: antt computes each. Assumes nothing.
+-- `log_reading::worked_records_hold` meets its contract: each follows by computation. Assumes nothing.
 use mathlib.Core.Path.{refl}
 use Rattle.wire.specs.Bytes.{leOf, bytesOf, numberAt, signedOf, bitsOf}
 use Rattle.time_log.specs.Layout.{partWidth, placeOf, recordLength}

@@ -1,4 +1,4 @@
--- `log_writing::any_of_list_over` meets its contract: what is found and what is left to look at decide the whole. Assumes nothing.
+-- `log_writing::any_of_list_over` meets its contract: what is found so far and the ordinals still to be looked at give the result. Assumes nothing.
 use mathlib.Core.Path.{_≡_, refl, sym, _∙_}
 use mathlib.Core.Bool.{_||_}
 use Prim.Native.Nat.{_+_, _*_, _-_, _≤_}

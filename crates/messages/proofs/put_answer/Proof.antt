@@ -1,4 +1,4 @@
--- `messages::put_answer` meets its contract: four bytes, one behind the other. Assumes nothing.
+-- `messages::put_answer` meets its contract: four bytes, one after the other. Assumes nothing.
 use native.Mathlib.Omega.{arith}
 use Prim.Native.Nat.{ℕ, _+_, _<_, _≤_}
 use lib.ListN.{length, set, length-set}

@@ -1,4 +1,4 @@
--- `messages::put_head` meets its contract: two bytes and a number, one behind the other. Assumes nothing.
+-- `messages::put_head` meets its contract: two bytes and a number, one after the other. Assumes nothing.
 use mathlib.Core.Path.{_≡_, _∙_}
 use mathlib.Core.List.{List}
 use native.Mathlib.Omega.{arith}

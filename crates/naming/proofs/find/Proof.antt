@@ -1,5 +1,5 @@
--- `naming::find` meets its contract: the walk stands at 0 or at a record of the ID's slot, and the first record with the ID does
--- not stand behind it. The number that it stands at falls. Assumes nothing.
+-- `naming::find` meets its contract: the walk is at 0 or at a record of the ID's slot, and the first record with the ID does
+-- not come after it. The number that it is at decreases. Assumes nothing.
 use mathlib.Core.Path.{_≡_, sym, _∙_}
 use Prim.Native.Nat.{suc, _-_, _<_}
 use native.Mathlib.Omega.{arith}

@@ -1,5 +1,5 @@
--- `pool::scan` meets its contract: what is left to walk gives the whole walk's answer, and what is listed and what is
--- left are the whole. Assumes nothing.
+-- `pool::scan` meets its contract: the rest of the walk gives the answer of the whole walk, and the records listed and those
+-- still to come are all records. Assumes nothing.
 use mathlib.Core.Path.{_≡_, refl, sym, _∙_}
 use Prim.Native.Nat.{ℕ, _*_, _-_, _≤_, _<_}
 use native.Mathlib.Omega.{arith}

@@ -1,4 +1,4 @@
--- `pool_listing::list_by` meets its contract: the parts laid one after the other are the listing. Assumes nothing.
+-- `pool_listing::list_by` meets its contract: the parts written one after the other are the listing. Assumes nothing.
 use mathlib.Core.Path.{_≡_, sym, ap, _∙_}
 use mathlib.Core.List.{List, _++_}
 use Prim.Native.Nat.{ℕ, _+_, _≤_}

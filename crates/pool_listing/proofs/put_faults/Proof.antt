@@ -1,4 +1,4 @@
--- `pool_listing::put_faults` meets its contract: the lines of the faults passed are laid. Assumes nothing.
+-- `pool_listing::put_faults` meets its contract: the lines of the faults passed so far are written. Assumes nothing.
 use mathlib.Core.Path.{_≡_, refl, sym}
 use mathlib.Core.List.{List}
 use Prim.Native.Nat.{ℕ, _+_, _*_, _-_, _≤_}

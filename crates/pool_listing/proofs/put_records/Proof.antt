@@ -1,4 +1,4 @@
--- `pool_listing::put_records` meets its contract: the lines of the records passed are laid. Assumes nothing.
+-- `pool_listing::put_records` meets its contract: the lines of the records passed so far are written. Assumes nothing.
 use mathlib.Core.Path.{_≡_, refl, sym, ap, _∙_}
 use mathlib.Core.List.{List, _++_}
 use Prim.Native.Nat.{ℕ, suc, _+_, _*_, _-_, _≤_}

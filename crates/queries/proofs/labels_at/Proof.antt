@@ -1,4 +1,4 @@
--- `queries::labels_at` meets its contract: each label is laid over zeros. Assumes nothing.
+-- `queries::labels_at` meets its contract: each label is copied over zeros. Assumes nothing.
 use mathlib.Core.Path.{refl, ap, _∙_}
 use native.Mathlib.Omega.{arith}
 use lib.ListN.{length}

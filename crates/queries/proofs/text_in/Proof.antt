@@ -1,4 +1,4 @@
--- `queries::text_in` meets its contract: the kinds are told apart one after the other. Assumes nothing.
+-- `queries::text_in` meets its contract: the kinds are tested one after the other. Assumes nothing.
 use borrow.Author.Tests.{ne-eqb}
 use Rattle.queries.specs.Queries.{textIn}
 use borrow.Author.Needs.{needs}

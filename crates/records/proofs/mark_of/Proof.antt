@@ -1,4 +1,4 @@
--- `records::mark_of` meets its contract: two letters that differ as a number are not both those of a mark. Assumes nothing.
+-- `records::mark_of` meets its contract: if two letters differ from those of a mark as a number, at least one of them differs. Assumes nothing.
 use mathlib.Core.Path.{_≡_, refl, ap₂}
 use mathlib.Core.Bool.{true, false, _&&_}
 use Prim.Native.Nat.{ℕ, _+_, _*_}

@@ -1,4 +1,4 @@
--- `lachsbrille_check` meets its contract: the pool's length picks one of two functions that have it (`Checking.antt`). Assumes nothing.
+-- `lachsbrille_check` meets its contract: the pool's length selects one of two functions with the same contract (`Checking.antt`). Assumes nothing.
 use Rattle.working_table.proofs.Over.{refl, [], _∷_, cited, refers, lends-on, named, mut, w16, w64, tyInt, asks, short, long, lends-table, picks-over}
 use Rattle.terminal.proofs.Checking.{faults, told, number, Checking}
 use Rattle.terminal.proofs.pools.check_short.Symbol as short-def

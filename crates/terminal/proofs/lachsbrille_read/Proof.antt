@@ -1,4 +1,4 @@
--- `lachsbrille_read` meets its contract: the pool's length picks one of two functions that have it (`Reading.antt`). Assumes nothing.
+-- `lachsbrille_read` meets its contract: the pool's length selects one of two functions with the same contract (`Reading.antt`). Assumes nothing.
 use Rattle.working_table.proofs.Over.{refl, [], _∷_, cited, refers, w64, tyInt, asks, short, long, lends-table, picks-over}
 use Rattle.terminal.proofs.Reading.{value, told, number, Reading}
 use Rattle.terminal.proofs.pools.read_short.Symbol as short-def

@@ -1,4 +1,4 @@
--- `lachsbrille_text` meets its contract: the pool's length picks one of two functions that have it (`Finding.antt`). Assumes nothing.
+-- `lachsbrille_text` meets its contract: the pool's length selects one of two functions with the same contract (`Finding.antt`). Assumes nothing.
 use Rattle.working_table.proofs.Over.{refl, [], _∷_, cited, refers, w64, w32, tyInt, givenOf, uint-lawful, asks, short, long, lends-table, picks-over}
 use Rattle.terminal.proofs.Finding.{query, told, number, Finding}
 use Rattle.terminal.proofs.pools.text_short.Symbol as short-def

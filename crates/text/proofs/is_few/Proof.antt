@@ -1,4 +1,4 @@
--- `text::is_few` meets its contract: what is left to count gives the whole count. Assumes nothing.
+-- `text::is_few` meets its contract: the characters counted so far and those still to be counted make up the whole count. Assumes nothing.
 use mathlib.Core.Path.{_≡_, refl, sym, ap, _∙_}
 use Prim.Native.Nat.{_+_, _-_, _≤_, _<_}
 use native.Mathlib.Nat.{add-zero}

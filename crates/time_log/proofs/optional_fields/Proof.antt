@@ -1,4 +1,4 @@
--- `time_log::optional_fields` meets its contract: the ones of nine bits are the marks. Assumes nothing.
+-- `time_log::optional_fields` meets its contract: the ones among the nine bits are the marks that are set. Assumes nothing.
 use mathlib.Core.Path.{refl}
 use native.Mathlib.Omega.{arith}
 use borrow.Author.Tests.{lt-ltb, le-ltb}

@@ -1,4 +1,4 @@
--- `wire::copy_in` meets its contract: what is still to be laid, laid now, gives the whole. Assumes nothing.
+-- `wire::copy_in` meets its contract: the bytes with those that are still to be copied are the final ones. Assumes nothing.
 use mathlib.Core.Path.{_≡_, refl, sym, _∙_}
 use mathlib.Core.List.{List, []}
 use Prim.Native.Nat.{ℕ, _+_, _-_, _≤_, _<_}

@@ -1,4 +1,4 @@
--- `wire::number` meets its contract: x is the number of the bytes passed, from the highest down. Assumes nothing.
+-- `wire::number` meets its contract: x is the number in the bytes passed so far, from the highest down. Assumes nothing.
 use mathlib.Core.Path.{_≡_, refl, sym, subst}
 use Prim.Native.Nat.{ℕ, suc, _+_, _*_, _-_, _^_, _≤_, _<_}
 use native.Mathlib.Omega.{arith}

@@ -1,4 +1,4 @@
--- `wire::put` meets its contract: what is still to be written, stored now, gives the whole. Assumes nothing.
+-- `wire::put` meets its contract: the bytes with those that are still to be written are the final ones. Assumes nothing.
 use mathlib.Core.Path.{_≡_, refl, sym, _∙_}
 use Prim.Native.Nat.{ℕ, suc, _+_, _-_, _≤_, _<_, _%_, _/_}
 use native.Mathlib.Nat.{add-zero, sub-zero}

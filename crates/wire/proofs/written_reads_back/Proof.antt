@@ -1,4 +1,4 @@
--- `wire::written_reads_back` meets its contract: the law over the width, and two's complement over it. Assumes nothing.
+-- `wire::written_reads_back` meets its contract: the law for every width, and two's complement on top of it. Assumes nothing.
 use mathlib.Core.Path.{_≡_, ap, _∙_}
 use Prim.Native.Nat.{ℕ, _+_, _<_, _≤_, _^_}
 use mathlib.Core.List.{List}

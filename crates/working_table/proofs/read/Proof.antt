@@ -1,4 +1,4 @@
--- `working_table::read` meets its contract: the pool's length picks one of two functions that have it (`Reading.antt`). Assumes nothing.
+-- `working_table::read` meets its contract: the pool's length selects one of two functions with the same contract (`Reading.antt`). Assumes nothing.
 use Rattle.working_table.proofs.Over.{refl, [], _∷_, cited, asks, short, long, lends-table, nothing-else, picks-over}
 use Rattle.working_table.proofs.Reading.{outcome, Reading}
 use Rattle.working_table.proofs.read_short.Symbol as short-def

@@ -1,4 +1,4 @@
--- `checker::table::check` meets its contract: the pool's length picks one of two functions that have it (`Sizes.antt`). Assumes nothing.
+-- `checker::table::check` meets its contract: the pool's length selects one of two functions with the same contract (`Sizes.antt`). Assumes nothing.
 use Rattle.working_table.proofs.Over.{refl, [], _∷_, cited, asks, short, long, lends-table, picks-over}
 use Rattle.checker.proofs.Sizes.{lends-faults, faults, verdict, Checking}
 use Rattle.checker.proofs.table.check_in_short.Symbol as short-def

@@ -1,4 +1,4 @@
--- `log_writing::writing::kept_number` meets its contract: a part without its mark has no bytes. Assumes nothing.
+-- `log_writing::writing::kept_number` meets its contract: a field that is not marked has no bytes. Assumes nothing.
 use mathlib.Core.Path.{_≡_, refl, sym, _∙_}
 use native.Mathlib.Omega.{arith}
 use borrow.Author.Tests.{eq-eqb, ne-eqb}

@@ -1,4 +1,4 @@
--- `log_writing::writing::put_fields` meets its contract: one part behind the other. Assumes nothing.
+-- `log_writing::writing::put_fields` meets its contract: one part after the other. Assumes nothing.
 use mathlib.Core.Path.{refl, _∙_}
 use native.Mathlib.Omega.{arith}
 use borrow.Author.Needs.{needs}

@@ -1,4 +1,4 @@
--- `log_writing::writing::put_pairs` meets its contract: what is still to be laid, laid now, gives the whole. Assumes nothing.
+-- `log_writing::writing::put_pairs` meets its contract: the bytes with the pairs that are still to be written are the final ones. Assumes nothing.
 use mathlib.Core.Path.{_≡_, refl, _∙_}
 use Prim.Native.Nat.{_+_, _*_, _-_, _≤_}
 use native.Mathlib.Nat.{sub-zero}

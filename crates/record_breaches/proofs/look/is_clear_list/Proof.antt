@@ -1,4 +1,4 @@
--- `record_breaches::look::is_clear_list` meets its contract: after m entries their tags are apart and have left the stamp in their places.
+-- `record_breaches::look::is_clear_list` meets its contract: after m entries their tags are distinct and their places are stamped.
 -- Assumes nothing.
 use mathlib.Core.Path.{_≡_, refl, sym, ap, _∙_}
 use Prim.Native.Nat.{ℕ, _+_, _-_, _≤_, _<_, _%_}

@@ -1,4 +1,4 @@
--- `record_breaches::look::is_clear_long` meets its contract: after m entries their tags are apart and have left their bits. Assumes nothing.
+-- `record_breaches::look::is_clear_long` meets its contract: after m entries their tags are distinct and their bits are set. Assumes nothing.
 use mathlib.Core.Path.{_≡_, refl, sym, ap, _∙_}
 use Prim.Native.Nat.{ℕ, _-_, _≤_, _<_, _%_}
 use native.Mathlib.Nat.{mod-lt}

@@ -1,4 +1,4 @@
--- `records::view::marked_kind` meets its contract: the letters of a mark that tell it from the others. Assumes nothing.
+-- `records::view::marked_kind` meets its contract: two letters of a mark tell it from the others. Assumes nothing.
 use Prim.Native.Nat.{_+_}
 use native.Mathlib.Omega.{arith}
 use Rattle.records.proofs.Marks.{mark-within, kind-process-data, kind-property, kind-element, kind-presentation, kind-device}

@@ -1,5 +1,5 @@
--- `reference_rules::links::walk_links` meets its contract: the walk over the entries, and inside it the walk along the links. The place of
--- the entry that first names the record falls. Assumes nothing.
+-- `reference_rules::links::walk_links` meets its contract: the walk over the entries, and inside it the walk along the links. The number of
+-- the first entry that names the record decreases. Assumes nothing.
 use mathlib.Core.Path.{_≡_, refl, sym, ap, _∙_, subst}
 use mathlib.Core.List.{List, [], _∷_}
 use Prim.Native.Nat.{ℕ, _+_, _-_, _<_, _%_}

@@ -1,4 +1,4 @@
--- `terminal::display::decimals_in` meets its contract: what stands for a greater number is out of range too. Assumes nothing.
+-- `terminal::display::decimals_in` meets its contract: 255, which replaces every greater number, is out of range too. Assumes nothing.
 use mathlib.Core.Path.{sym}
 use native.Mathlib.Omega.{arith}
 use borrow.Author.Tests.{lt-leb}

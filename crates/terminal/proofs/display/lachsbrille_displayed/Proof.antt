@@ -1,4 +1,4 @@
--- `terminal::display::lachsbrille_displayed` meets its contract: of the decimals only the range counts. Assumes nothing.
+-- `terminal::display::lachsbrille_displayed` meets its contract: only whether the decimals are in range matters. Assumes nothing.
 use mathlib.Core.Path.{_≡_, _∙_}
 use Prim.Native.Nat.{ℕ}
 use lib.Dec.{leb}

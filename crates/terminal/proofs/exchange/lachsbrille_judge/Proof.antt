@@ -1,4 +1,4 @@
--- `lachsbrille_judge` meets its contract: the pool's length picks one of two functions that have it (`Judging.antt`). Assumes nothing.
+-- `lachsbrille_judge` meets its contract: the pool's length selects one of two functions with the same contract (`Judging.antt`). Assumes nothing.
 use Rattle.working_table.proofs.Over.{refl, [], _∷_, cited, refers, w8, w16, w32, tyInt, givenOf, uint-lawful, asks, short, long, lends-table, picks-over}
 use denote.Signed.{sint-lawful}
 use Rattle.terminal.proofs.Judging.{command, told, number, Judging}

@@ -1,4 +1,4 @@
--- `terminal::exchange::lachsbrille_message_read` meets its contract: what reading says. Assumes nothing.
+-- `terminal::exchange::lachsbrille_message_read` meets its contract: it returns what reading returns. Assumes nothing.
 use mathlib.Core.Path.{_∙_}
 use borrow.Author.Needs.{needs}
 use Rattle.terminal.proofs.exchange.lachsbrille_message_read.Statement.{statement}

@@ -1,4 +1,4 @@
--- `terminal::exchange::lachsbrille_message_write_value` meets its contract: what writing says. Assumes nothing.
+-- `terminal::exchange::lachsbrille_message_write_value` meets its contract: it returns what writing returns. Assumes nothing.
 use mathlib.Core.Path.{_∙_}
 use mir.Syntax.{w32}
 use mir.ValLaws.{toZ-ofZ}

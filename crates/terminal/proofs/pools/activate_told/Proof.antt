@@ -1,4 +1,4 @@
--- `terminal::pools::activate_told` meets its contract: the step of activating, given out. Assumes nothing.
+-- `terminal::pools::activate_told` meets its contract: it returns the step of activating as numbers. Assumes nothing.
 use mathlib.Core.Path.{ap, _∙_}
 use Rattle.session.specs.Calls.{stepOf}
 use borrow.Author.Needs.{needs}

@@ -1,4 +1,4 @@
--- `terminal::sessions::lachsbrille_session_transfer` meets its contract: the session's own step, given out. Assumes nothing.
+-- `terminal::sessions::lachsbrille_session_transfer` meets its contract: it returns the session's step as numbers. Assumes nothing.
 use mathlib.Core.Path.{_∙_}
 use borrow.Author.Needs.{needs}
 use Rattle.terminal.proofs.sessions.lachsbrille_session_transfer.Statement.{statement}

@@ -1,4 +1,4 @@
--- `time_log::contents::part` meets its contract: the mark says whether the bytes are there. Assumes nothing.
+-- `time_log::contents::part` meets its contract: the mark says whether the field is present. Assumes nothing.
 use mathlib.Core.Path.{_≡_, sym, _∙_}
 use Prim.Native.Nat.{_≤_}
 use native.Mathlib.Nat.{lt-of-lt-of-le}

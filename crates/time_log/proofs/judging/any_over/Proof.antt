@@ -1,4 +1,4 @@
--- `time_log::judging::any_over` meets its contract: what is left to look at decides the whole. Assumes nothing.
+-- `time_log::judging::any_over` meets its contract: the result is that of the ordinals that are still to be looked at. Assumes nothing.
 use mathlib.Core.Path.{_≡_, refl, sym, _∙_}
 use Prim.Native.Nat.{_+_, _*_, _-_, _≤_}
 use native.Mathlib.Omega.{arith}

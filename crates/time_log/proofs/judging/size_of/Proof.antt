@@ -1,4 +1,4 @@
--- `time_log::judging::size_of` meets its contract: below the middle as it is, and above it turned round. Assumes nothing.
+-- `time_log::judging::size_of` meets its contract: below the middle the number itself, and above it its two's complement. Assumes nothing.
 use native.Mathlib.Omega.{arith}
 use borrow.Author.Needs.{needs}
 use Rattle.time_log.proofs.Numbers.{size-low, size-high}
