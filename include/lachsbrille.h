@@ -213,7 +213,7 @@ uint32_t lachsbrille_read(const uint8_t *pool, size_t pool_length,
  *
  * The fault buffer is words: record, rule and item of the first fault, then of the second, and so on. Its length counts words.
  *
- * 0: `value` is the full count of faults; a pool is accepted where it is 0. The buffer starts with the faults in the order of
+ * 0: `value` is the full count of faults; a pool is accepted if it is 0. The buffer starts with the faults in the order of
  * record, rule and item, as many whole ones as fit; its other words are left as they were, also one or two at its end that are too
  * few for a fault. The table is filled as in reading.
  * 1 to 7: as in reading, and the buffer is left as it was.

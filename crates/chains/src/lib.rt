@@ -71,7 +71,7 @@ fn chains(p: &[u8], starts: &[u16], heads: &[u16], next: &[u16], ups: &mut [u16]
     }
 }
 
-// Marks the records whose chains have not ended: those whose number has an item other than 0.
+// Marks the records whose chains have not ended: those for which `ups` does not have 0.
 fn mark_left(ups: &[u16], count: usize, marks: &mut [u8])
     requires { ⌜ (count < length (now ups)) × Blank (now marks) × (count ≤ 8 * length (now marks)) ⌝ }
     ensures { λ _. ⌜ ((i : ℕ) → i < count → bitAt (now (marks .exit)) i ≡ not (eqb (getD (now (ups .entry)) (suc i) 0) 0)) ⌝ }

@@ -21,6 +21,6 @@ pub record Figures (n : ℕ) (bs : List ℕ) : Type 0 where
 abbrev pub Spelt : Type 0
 Spelt = (n : ℕ) → Figures n (digits n)
 
--- and no other bytes are
+-- no other bytes are the decimal digits of a number
 abbrev pub OneSpelling : Type 0
 OneSpelling = (n : ℕ) (bs : List ℕ) → Figures n bs → bs ≡ digits n

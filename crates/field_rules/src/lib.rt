@@ -92,7 +92,7 @@ fn is_bad_type(t: u8) -> bool
     !((1 <= t) & (t <= 7))
 }
 
-// An element number has twelve bits.
+// Whether an element number does not fit into twelve bits.
 fn is_bad_number(x: u16) -> bool
     ensures { λ r. ⌜ r ≡ ltb 4095 x ⌝ }
 {
@@ -122,7 +122,7 @@ pub fn put_fields(
     faults::put_if(is_bad_number(e.number), faults, n5, number, 5, 2)
 }
 
-// The properties have three bits.
+// Whether a property bit above bit 2 is set.
 fn is_bad_properties(x: u8) -> bool
     ensures { λ r. ⌜ r ≡ ltb 7 x ⌝ }
 {
@@ -136,7 +136,7 @@ fn is_bad_source(properties: u8) -> bool
     properties / 2 % 4 == 3
 }
 
-// The triggers have five bits.
+// Whether a trigger bit above bit 4 is set.
 fn is_bad_triggers(x: u8) -> bool
     ensures { λ r. ⌜ r ≡ ltb 31 x ⌝ }
 {

@@ -109,7 +109,7 @@ fn lacks_setting(properties: u8, command: u32) -> bool
     ((command == 3) | (command == 10)) & (properties / 2 % 2 == 0)
 }
 
-// Whether the trigger that a command asks for is missing.
+// Whether the trigger that a command needs is missing.
 fn lacks_trigger(triggers: u8, command: u32) -> bool
     ensures { λ r. ⌜ r ≡ lacksTrigger triggers command ⌝ }
 {

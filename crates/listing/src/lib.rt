@@ -58,7 +58,7 @@ fn begin(line: &mut [u8; 96], kind: u16) -> usize
     0
 }
 
-// The line of the count of records.
+// Writes the line for the count of records.
 pub fn put_count(out: &mut [u8], at: usize, count: u64) -> usize
     ensures { λ r. ⌜ (now (out .exit) ≡ laid (now (out .entry)) at (countLine count)) × (r ≡ placeAfter (now (out .entry)) at (countLine count)) ⌝ }
 {
@@ -68,7 +68,7 @@ pub fn put_count(out: &mut [u8], at: usize, count: u64) -> usize
     lay(out, at, &line[..end])
 }
 
-// A record's line.
+// Writes the line for a record.
 pub fn put_record(out: &mut [u8], at: usize, kind: u16, id: u16, start: u16, size: u16) -> usize
     ensures { λ r. ⌜ (now (out .exit) ≡ laid (now (out .entry)) at (recordLine kind id start size)) × (r ≡ placeAfter (now (out .entry)) at (recordLine kind id start size)) ⌝ }
 {
@@ -81,14 +81,14 @@ pub fn put_record(out: &mut [u8], at: usize, kind: u16, id: u16, start: u16, siz
     lay(out, at, &line[..end])
 }
 
-// The line of a pool without faults.
+// Writes the line for a pool without faults.
 pub fn put_accepted(out: &mut [u8], at: usize) -> usize
     ensures { λ r. ⌜ (now (out .exit) ≡ laid (now (out .entry)) at acceptedLine) × (r ≡ placeAfter (now (out .entry)) at acceptedLine) ⌝ }
 {
     lay(out, at, b"accepted\n")
 }
 
-// A fault's line.
+// Writes the line for a fault.
 pub fn put_fault(out: &mut [u8], at: usize, number: u16, rule: u16, item: u16) -> usize
     ensures { λ r. ⌜ (now (out .exit) ≡ laid (now (out .entry)) at (faultLine number rule item)) × (r ≡ placeAfter (now (out .entry)) at (faultLine number rule item)) ⌝ }
 {
@@ -100,7 +100,7 @@ pub fn put_fault(out: &mut [u8], at: usize, number: u16, rule: u16, item: u16) -
     lay(out, at, &line[..end])
 }
 
-// The line of a refusal.
+// Writes the line for a refusal.
 pub fn put_refused(out: &mut [u8], at: usize, number: u64, place: u64) -> usize
     ensures { λ r. ⌜ (now (out .exit) ≡ laid (now (out .entry)) at (refusedLine number place)) × (r ≡ placeAfter (now (out .entry)) at (refusedLine number place)) ⌝ }
 {

@@ -1,4 +1,4 @@
--- What is written reads back the same, and what is read is written back the same but for the bits that are ignored.
+-- What is written reads back the same, and what is read is written back the same except for the bits that are ignored.
 -- Definitions only.
 use Prim.Native.Nat.{ℕ, _+_, _%_, _^_, _≤_, _<_}
 use mathlib.Core.Path.{_≡_}

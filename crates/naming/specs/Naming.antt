@@ -19,7 +19,7 @@ unfoldable pub firstOf : (ℕ → ℕ) → ℕ → ℕ → ℕ
 firstOf key x zero = 0
 firstOf key x (suc n) = orElse (firstOf key x n) (cond (eqb (key n) x) (suc n) 0)
 
--- a device element's element number; for any other record 65536, which is no element number
+-- a device element's element number; for any other record 65536, which two bytes cannot hold
 abbrev pub numberKey : List ℕ → List Entry → ℕ → ℕ
 numberKey p es i = cond (eqb (kindAt es i) 2) (elementOf p (startAt es i) .number) 65536
 

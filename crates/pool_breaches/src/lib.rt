@@ -102,7 +102,7 @@ struct Settled {
 
 // Rules 8 and 9 of record i, a device element with fields e; parent is the number of the record that its parent names, and kind that
 // record's kind. In the usual case its element number is noted, and that is all. If the number is over 4095, all records are marked before
-// rule 8 is judged, else before rule 9. There are two calls for this, so that the compiler gives `mark_all` a stack frame of its own.
+// rule 8 is judged, else before rule 9. There are two calls of `settle`, so that the compiler gives the marking a stack frame of its own.
 fn settle_element(
     p: &[u8],
     starts: &[u16],

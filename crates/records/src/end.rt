@@ -131,7 +131,7 @@ fn text_within(p: &[u8], at: usize, n: usize, limit: u8, m: usize) -> Extent
     Extent::Ends(end)
 }
 
-// ID, designator, software version, NAME, serial number, structure label, localization label, extended label.
+// A device: ID, designator, software version, NAME, serial number, structure label, localization label, extended label.
 fn dvc_end(p: &[u8], at: usize) -> Extent
     requires { ⌜ at ≤ length (now p) ⌝ }
     ensures { λ r. ⌜ r ≡ fieldsEnd (layout Dvc) (now (p .entry)) (Ends at) ⌝ }
@@ -183,7 +183,7 @@ fn det_end(p: &[u8], at: usize) -> Extent
     Extent::Ends(end)
 }
 
-// ID, DDI, properties, trigger methods, designator, presentation ID.
+// Process data: ID, DDI, properties, trigger methods, designator, presentation ID.
 fn dpd_end(p: &[u8], at: usize) -> Extent
     requires { ⌜ at ≤ length (now p) ⌝ }
     ensures { λ r. ⌜ r ≡ fieldsEnd (layout Dpd) (now (p .entry)) (Ends at) ⌝ }
@@ -191,8 +191,8 @@ fn dpd_end(p: &[u8], at: usize) -> Extent
     text_within(p, at, 2 + 2 + 1 + 1, 128, 2)
 }
 
-// ID, DDI, value, designator, presentation ID. It does not use the same function as process data: the compiler would merge the two, and
-// each step would wait longer.
+// A property: ID, DDI, value, designator, presentation ID. It does not use the same function as process data: the compiler would merge
+// the two, and each step would wait longer.
 fn dpt_end(p: &[u8], at: usize) -> Extent
     requires { ⌜ at ≤ length (now p) ⌝ }
     ensures { λ r. ⌜ r ≡ fieldsEnd (layout Dpt) (now (p .entry)) (Ends at) ⌝ }
@@ -202,7 +202,7 @@ fn dpt_end(p: &[u8], at: usize) -> Extent
     close(p, presentation)
 }
 
-// ID, offset, scale, decimals, unit text.
+// A value presentation: ID, offset, scale, decimals, unit text.
 fn dvp_end(p: &[u8], at: usize) -> Extent
     requires { ⌜ at ≤ length (now p) ⌝ }
     ensures { λ r. ⌜ r ≡ fieldsEnd (layout Dvp) (now (p .entry)) (Ends at) ⌝ }

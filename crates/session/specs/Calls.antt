@@ -46,7 +46,7 @@ causes s =
     ∷ (not (isOffered s) && not (eqb (s .received) 0))
     ∷ []
 
--- 27: one of the causes holds
+-- an impossible session value, which is refused with 27: one of the causes holds
 unfoldable pub impossible : Session → Bool
 impossible s = anyOf (causes s)
 

@@ -183,7 +183,7 @@ pub fn delete(s: Session) -> Step
     }
 }
 
-// The connection is lost: the pool stays kept.
+// The connection is lost: an offer is forgotten and no pool is active, but a kept pool stays kept.
 pub fn lost(s: Session) -> Step
     ensures { λ r. ⌜ stepOf r ≡ lostOf s ⌝ }
 {

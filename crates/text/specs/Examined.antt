@@ -14,7 +14,7 @@ use Rattle.text.specs.Characters.{Counted, Characters, Malformed}
 abbrev pub marked : List ℕ → Bool
 marked s = eqb (getD s 0 0) 0xEF && (eqb (getD s 1 0) 0xBB && eqb (getD s 2 0) 0xBF)
 
--- at most 32 characters
+-- well-formed, with at most 32 characters
 abbrev pub few : Counted → Bool
 few (Characters n) = leb n 32
 few Malformed = false
