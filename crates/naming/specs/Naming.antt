@@ -19,9 +19,9 @@ unfoldable pub firstOf : (ℕ → ℕ) → ℕ → ℕ → ℕ
 firstOf key x zero = 0
 firstOf key x (suc n) = orElse (firstOf key x n) (cond (eqb (key n) x) (suc n) 0)
 
--- keys of record i: for a device element its number and its type, which are else what none has
-abbrev pub numberKey : List ℕ → List Entry → ℕ → ℕ
-numberKey p es i = cond (eqb (kindAt es i) 2) (elementOf p (startAt es i) .number) 65536
+-- a device element's number and 1; 0 for any other record, which so has no number
+abbrev pub elementKey : List ℕ → List Entry → ℕ → ℕ
+elementKey p es i = cond (eqb (kindAt es i) 2) (suc (elementOf p (startAt es i) .number)) 0
 
 -- a device element's type; 256, which no byte is, for any other record
 abbrev pub typeKey : List ℕ → List Entry → ℕ → ℕ
