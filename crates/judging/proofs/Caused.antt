@@ -13,7 +13,7 @@ use Rattle.records.specs.declared.Kind.the-variants.{Det, Dpd}
 use Rattle.views.specs.Fields.{elementOf, entryOf, processDataOf}
 use Rattle.pool.specs.Reading.{Entry, scanOf, entriesIn}
 use Rattle.naming.specs.Records.{startAt, kindAt}
-use Rattle.naming.specs.Naming.{firstOf, numberKey, named, tagOf}
+use Rattle.naming.specs.Naming.{firstOf, elementKey, named, tagOf}
 use Rattle.naming.proofs.First.{first-none, first-some}
 use Rattle.rules.specs.Breach.{Names, Bit, EntryDdi}
 use Rattle.rules.proofs.Names.{names-named, test-is, is-test}
@@ -80,24 +80,24 @@ abbrev FoundElement : List ℕ → List Entry → ℕ → ℕ → Type 0
 FoundElement p es element r = ((r ≡ 0) × ((i : ℕ) → Numbered p es element i → ⊥)) ⊎ ((i : ℕ) × (r ≡ suc i) × Numbered p es element i)
 
 module _ (p : List ℕ) (es : List Entry) (element : ℕ) where
-  numbered-key : {i : ℕ} → Numbered p es element i → numberKey p es i ≡ element
-  numbered-key {i} n = rw (is-test es i Det (n .is)) (n .number)
+  numbered-key : {i : ℕ} → Numbered p es element i → elementKey p es i ≡ suc element
+  numbered-key {i} n = rw (is-test es i Det (n .is)) (ap suc (n .number))
 
-  -- what is no device element has 65536 for its key
-  key-numbered : (i : ℕ) → element ≤ 4095 → i < length es → numberKey p es i ≡ element → Numbered p es element i
-  key-numbered i small l k = go (eqb (kindAt es i) 2) refl k
+  -- what is no device element has 0 for its key
+  key-numbered : (i : ℕ) → i < length es → elementKey p es i ≡ suc element → Numbered p es element i
+  key-numbered i l k = go (eqb (kindAt es i) 2) refl k
     where
-      go : (t : Bool) → eqb (kindAt es i) 2 ≡ t → cond t (elementOf p (startAt es i) .number) 65536 ≡ element → Numbered p es element i
-      go true e q = record { is = test-is es Det i l e; number = q }
-      go false e q = absurd (omega arith)
+      go : (t : Bool) → eqb (kindAt es i) 2 ≡ t → cond t (suc (elementOf p (startAt es i) .number)) 0 ≡ suc element → Numbered p es element i
+      go true e q = record { is = test-is es Det i l e; number = omega (arith, q) }
+      go false e q = absurd (omega (arith, q))
 
-  found-element : element ≤ 4095 → FoundElement p es element (elementFor p es element)
+  found-element : FoundElement p es element (elementFor p es element)
   unfolding elementFor
-  found-element small = go (firstOf (numberKey p es) element (length es)) refl
+  found-element = go (firstOf (elementKey p es) (suc element) (length es)) refl
     where
-      go : (r : ℕ) → firstOf (numberKey p es) element (length es) ≡ r → FoundElement p es element r
-      go zero e = inl (refl, λ (i : ℕ) (n : Numbered p es element i). first-none (numberKey p es) element (length es) e i (n .is .there) (numbered-key n))
-      go (suc i) e = let s = first-some (numberKey p es) element (length es) i e in inr (i, refl, key-numbered i small (s .0) (s .1))
+      go : (r : ℕ) → firstOf (elementKey p es) (suc element) (length es) ≡ r → FoundElement p es element r
+      go zero e = inl (refl, λ (i : ℕ) (n : Numbered p es element i). first-none (elementKey p es) (suc element) (length es) e i (n .is .there) (numbered-key n))
+      go (suc i) e = let s = first-some (elementKey p es) (suc element) (length es) i e in inr (i, refl, key-numbered i (s .0) (s .1))
 
 -- ---- the object, in the list of an element, likewise
 
@@ -224,7 +224,7 @@ module _ (p : List ℕ) (es : List Entry) (one : NamesOne p es) where
           by-command false t =
               subst (ErrorByte p es command element ddi value) (Erring.no-command p es command element ddi value t)
               (here (no-value (λ (c : Carries command). true≢false (sym (carries-test c) ∙ t))))
-          by-command true t = by-element t (found-element p es element small)
+          by-command true t = by-element t (found-element p es element)
 
 -- ---- the claim
 

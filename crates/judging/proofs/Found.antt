@@ -7,7 +7,7 @@ use lib.ListN.{length, getD}
 use Rattle.views.specs.Fields.{elementOf, entryOf}
 use Rattle.pool.specs.Walk.{entriesOf}
 use Rattle.pool.proofs.Starts.{entries-long}
-use Rattle.naming.specs.Naming.{firstOf, numberKey, named, tagOf}
+use Rattle.naming.specs.Naming.{firstOf, elementKey, named, tagOf}
 use Rattle.naming.proofs.First.{Without, to-none, to-first, first-le}
 use Rattle.naming.proofs.Starts.{start-read, named-listed}
 use Rattle.queries.specs.Queries.{startOf}
@@ -35,7 +35,7 @@ module _ (p starts : List ℕ) where
     pub element-listed : (element : ℕ) → elementFor p (entriesOf p starts) element < length starts
     unfolding elementFor
     element-listed element =
-        omega (arith, first-le (numberKey p (entriesOf p starts)) element (length (entriesOf p starts)), entries-long p starts)
+        omega (arith, first-le (elementKey p (entriesOf p starts)) (suc element) (length (entriesOf p starts)), entries-long p starts)
 
     pub object-listed : (at ddi : ℕ) → objectFor p (entriesOf p starts) at ddi < length starts
     object-listed at ddi = go (entryFor p (entriesOf p starts) at ddi)

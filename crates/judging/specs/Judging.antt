@@ -8,13 +8,13 @@ use lib.ListN.{length}
 use lib.Signed.{ltZ}
 use Rattle.views.specs.Fields.{elementOf, entryOf, processDataOf}
 use Rattle.pool.specs.Reading.{Entry, scanOf, entriesIn}
-use Rattle.naming.specs.Naming.{firstOf, numberKey, named, kindOf, tagOf}
+use Rattle.naming.specs.Naming.{firstOf, elementKey, named, kindOf, tagOf}
 use Rattle.queries.specs.Queries.{acceptance, startOf}
 use Rattle.messages.specs.Layout.{carriesValue}
 
 -- 0x02: the first device element with an element number, as its record's number from 1; 0 for none
 unfoldable pub elementFor : List ℕ → List Entry → ℕ → ℕ
-elementFor p es element = firstOf (numberKey p es) element (length es)
+elementFor p es element = firstOf (elementKey p es) (suc element) (length es)
 
 -- the first entry that names process data or a property of a DDI, in the list of the device element that starts at a place: as the
 -- entry's number from 1, 0 for none

@@ -2,7 +2,7 @@
 use pool::Outcome;
 ghost use mathlib.Core.Path.{_≡_};
 ghost use mathlib.Core.Bool.{true, cond};
-ghost use Prim.Native.Nat.{_*_, _≤_};
+ghost use Prim.Native.Nat.{suc, _*_, _≤_};
 ghost use lib.Dec.{eqb};
 ghost use lib.ListN.{length};
 ghost use Rattle.views.specs.Fields.{elementOf};
@@ -41,7 +41,7 @@ struct Bits {
 
 // Whether a record is the device element with an element number.
 fn is_numbered(p: &[u8], at: u16, kind: u16, element: u16) -> bool
-    ensures { λ r. ⌜ r ≡ eqb (cond (eqb kind 2) (elementOf (now (p .entry)) at .number) 65536) element ⌝ }
+    ensures { λ r. ⌜ r ≡ eqb (cond (eqb kind 2) (suc (elementOf (now (p .entry)) at .number)) 0) (suc element) ⌝ }
 {
     if kind == 2 {
         return views::device_element(p, at).number == element;

@@ -19,9 +19,9 @@ unfoldable pub firstOf : (ℕ → ℕ) → ℕ → ℕ → ℕ
 firstOf key x zero = 0
 firstOf key x (suc n) = orElse (firstOf key x n) (cond (eqb (key n) x) (suc n) 0)
 
--- a device element's element number; for any other record 65536, which two bytes cannot hold
-abbrev pub numberKey : List ℕ → List Entry → ℕ → ℕ
-numberKey p es i = cond (eqb (kindAt es i) 2) (elementOf p (startAt es i) .number) 65536
+-- a device element's element number plus 1; 0 for any other record, so that it never equals the key of a device element
+abbrev pub elementKey : List ℕ → List Entry → ℕ → ℕ
+elementKey p es i = cond (eqb (kindAt es i) 2) (suc (elementOf p (startAt es i) .number)) 0
 
 -- a device element's type; for any other record 256, which no byte is
 abbrev pub typeKey : List ℕ → List Entry → ℕ → ℕ

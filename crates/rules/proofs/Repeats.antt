@@ -10,7 +10,7 @@ use lib.Dec.{eqb}
 use Rattle.views.specs.Fields.{elementOf}
 use Rattle.pool.specs.Reading.{Entry}
 use Rattle.naming.specs.Records.{startAt, kindAt}
-use Rattle.naming.specs.Naming.{firstOf, numberKey, typeKey}
+use Rattle.naming.specs.Naming.{firstOf, typeKey}
 use Rattle.naming.proofs.First.{Without, first-none, first-some, to-none, to-first}
 use Rattle.rules.specs.Table.{repeats, elementKey}
 use Rattle.rules.proofs.Truth.{differ, to-differ}
@@ -35,16 +35,6 @@ module _ (key : ℕ → ℕ) (x i n : ℕ) where
   unfolding repeats
   earlier-repeats j l k = to-differ (firstOf key x n) (suc i) (λ (f : firstOf key x n ≡ suc i). first-some key x n i f .2 j l k)
 
--- two keys that the same records have
-pub first-alike : (f g : ℕ → ℕ) (x y n : ℕ) → ((j : ℕ) → f j ≡ x → g j ≡ y) → ((j : ℕ) → g j ≡ y → f j ≡ x) → firstOf f x n ≡ firstOf g y n
-first-alike f g x y n to from = go (firstOf f x n) refl
-  where
-    go : (r : ℕ) → firstOf f x n ≡ r → firstOf f x n ≡ firstOf g y n
-    go zero e = e ∙ sym (to-none g y n (λ (j : ℕ) (l : j < n) (q : g j ≡ y). first-none f x n e j l (from j q)))
-    go (suc i) e =
-        let s = first-some f x n i e in
-        e ∙ sym (to-first g y n i (s .0) (to i (s .1)) (λ (j : ℕ) (l : j < i) (q : g j ≡ y). s .2 j l (from j q)))
-
 -- ---- the keys of a device element
 module _ (p : List ℕ) (es : List Entry) (i : ℕ) where
   pub element-key : kindAt es i ≡ 2 → elementKey p es i ≡ suc (elementOf p (startAt es i) .number)
@@ -57,16 +47,6 @@ module _ (p : List ℕ) (es : List Entry) (i : ℕ) where
       go (yes k) = (k, omega (arith, element-key k, e))
       go (no k) = let z : 0 ≡ suc x = rw (ne-eqb (kindAt es i) 2 k) at e in absurd (omega arith)
 
-  number-key : (x : ℕ) → x < 65536 → numberKey p es i ≡ x → elementKey p es i ≡ suc x
-  number-key x l e = go (ℕ-discrete (kindAt es i) 2)
-    where
-      go : Dec (kindAt es i ≡ 2) → elementKey p es i ≡ suc x
-      go (yes k) = element-key k ∙ ap suc (rw (eq-eqb (kindAt es i) 2 k) at e)
-      go (no k) = let z : 65536 ≡ x = rw (ne-eqb (kindAt es i) 2 k) at e in absurd (omega arith)
-
-  key-number : (x : ℕ) → elementKey p es i ≡ suc x → numberKey p es i ≡ x
-  key-number x e = let k = key-element x e in rw (eq-eqb (kindAt es i) 2 (k .0)) (k .1)
-
   pub type-key : kindAt es i ≡ 2 → typeKey p es i ≡ elementOf p (startAt es i) .«element_type»
   type-key e = rw (eq-eqb (kindAt es i) 2 e)
 
@@ -76,12 +56,3 @@ module _ (p : List ℕ) (es : List Entry) (i : ℕ) where
       go : Dec (kindAt es i ≡ 2) → (kindAt es i ≡ 2) × (elementOf p (startAt es i) .«element_type» ≡ 1)
       go (yes k) = (k, sym (type-key k) ∙ e)
       go (no k) = let z : _≡_ {A = ℕ} 256 1 = rw (ne-eqb (kindAt es i) 2 k) at e in absurd (omega arith)
-
--- below 65536 an index of element numbers serves for the table's key
-pub first-number : (p : List ℕ) (es : List Entry) (x n : ℕ) → x < 65536 → firstOf (numberKey p es) x n ≡ firstOf (elementKey p es) (suc x) n
-first-number p es x n l =
-    first-alike (numberKey p es) (elementKey p es) x (suc x) n (λ (j : ℕ). number-key p es j x l) (λ (j : ℕ). key-number p es j x)
-
-pub repeats-number : (p : List ℕ) (es : List Entry) (x i n : ℕ) → x < 65536 → repeats (numberKey p es) x i n ≡ repeats (elementKey p es) (suc x) i n
-unfolding repeats
-repeats-number p es x i n l = ap (λ (f : ℕ). not (eqb f (suc i))) (first-number p es x n l)

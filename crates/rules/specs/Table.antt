@@ -18,6 +18,7 @@ use Rattle.faults.specs.Rows.{Row, one, many, inRecords}
 use Rattle.pool.specs.Reading.{Entry, scanOf, entriesIn}
 use Rattle.naming.specs.Records.{startAt, idAt, kindAt}
 use Rattle.naming.specs.Naming.{firstOf, typeKey, named, kindOf, parentOf, climb, isData, tagOf, among}
+pub use Rattle.naming.specs.Naming.{elementKey}
 
 -- record i is not the first of n records with the key x
 unfoldable pub repeats : (ℕ → ℕ) → ℕ → ℕ → ℕ → Bool
@@ -118,10 +119,6 @@ entryNamed p es at m = named es (entryOf p at m)
 -- rules 6 and 7 of a presentation, by its ID
 abbrev pub presentedRows : List Entry → ℕ → List Row
 presentedRows es x = presentationRows x (named es x) (kindOf es (named es x))
-
--- a device element's element number plus 1; 0 for any other record, so that it never equals the key of a device element
-abbrev pub elementKey : List ℕ → List Entry → ℕ → ℕ
-elementKey p es i = cond (eqb (kindAt es i) 2) (suc (elementOf p (startAt es i) .number)) 0
 
 -- all rules of a device element except 1 and 2
 abbrev pub elementRows : List ℕ → List Entry → ℕ → DeviceElement → List Row
