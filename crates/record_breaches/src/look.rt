@@ -187,7 +187,7 @@ fn is_clear_list(
 }
 
 // The same for a long list, in which DDIs would often share one of those places: a bit for each of 16,384 remainders, which are different
-// for all DDIs of the standard and all proprietary ones.
+// for all DDIs below 8,192 and all proprietary ones.
 fn is_clear_long(
     p: &[u8],
     starts: &[u16],
