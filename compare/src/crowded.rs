@@ -65,7 +65,7 @@ impl Maker<'_> {
         }
     }
 
-    /// One of the usual values, now and then one of the others.
+    /// One of the usual values, sometimes one of the others.
     fn mostly<T: Copy>(&mut self, usual: &[T], others: &[T]) -> T {
         let rare = self.random.one_in(8);
         self.random.pick(if rare { others } else { usual })

@@ -64,7 +64,7 @@ impl Shape {
         }
     }
 
-    /// Where in a device element's record its entry count stands.
+    /// Where in a device element's record its entry count is.
     pub fn entry_count_at(&self) -> usize {
         11 + self.texts[0]
     }

@@ -75,7 +75,7 @@ impl Group {
     }
 }
 
-/// Prints what stands above the groups.
+/// Prints what is above the groups.
 pub fn print_head() {
     println!("times of both sides; library/second below 1.0: the library is faster\n");
     let titles = ["library", "second", "library/second"];
