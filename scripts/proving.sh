@@ -1,6 +1,6 @@
 # shellcheck shell=bash
-# Proving with the Rattle kit, for the scripts that use what comes of it. They source this file in the repository's folder, with
-# their name in `program`.
+# Proving with the Rattle kit, for the scripts that use the results. They source this file in the repository's folder, with their name
+# in `program`.
 
 # shellcheck disable=SC2154 # program is the caller's
 say() {
@@ -16,14 +16,14 @@ need() {
     command -v "$1" >/dev/null 2>&1 || fail "$1 is not on the PATH: $2" 2
 }
 
-# The kit's folder, and that of its compiler for this machine.
+# Sets `kit` to the kit's folder, and `tools` to the folder in it that has the compiler for this machine.
 find_kit() {
     need rt 'the Rattle kit is needed'
     kit=${RATTLE_HOME:-$(dirname "$(dirname "$(readlink -f "$(command -v rt)")")")}
     tools=on/$(uname -m)/toolchain
 }
 
-# Prints some crates and all that they rest on, a line each.
+# Prints some crates and all that they depend on, one per line.
 rests_on() { # CRATE...
     awk -F: -v wanted="$*" '
         function visit(crate,    i, count, below) {
@@ -40,7 +40,7 @@ rests_on() { # CRATE...
         }' crates.txt
 }
 
-# Runs a command that proves some crates, with all that it says in a log. On a terminal one line says how far it is.
+# Runs a command that proves some crates, with all its output in a log. On a terminal one line shows its progress.
 prove() { # WHAT LOG CRATES COMMAND...
     what=$1 log=$2 crates=$3 shown=-1
     say "proving $what, which takes some minutes the first time; the log is $log"
@@ -72,7 +72,7 @@ prove() { # WHAT LOG CRATES COMMAND...
     }
 }
 
-# Two runs of rt at once share the logs in target/, and each takes the other's crates in progress for failed ones.
+# Two runs of rt at the same time would share the logs in target/, and each would take the other's unfinished crates for failed ones.
 wait_for_turn() {
     need flock 'it comes with util-linux'
     { exec {turn}>target/proving.lock; } 2>/dev/null || fail "$PWD/target cannot be written"
@@ -90,8 +90,8 @@ end_provers() { # STATUS
     exit "$1"
 }
 
-# Once a second: how many crates are proved, which are being proved, the time so far. `rt check` keeps what it says of a crate in
-# target/log/CRATE.out, from the crate's beginning on; `rt staticlib` has no such file for its own crate, which is the last.
+# Shows, once a second, how many crates are proved, which are being proved, and the time so far. `rt check` writes its output on a crate
+# to target/log/CRATE.out, which is there as soon as it begins; `rt staticlib` has no such file for its own crate, which is the last.
 show_progress() {
     [ $((SECONDS - began)) -ne "$shown" ] || return 0
     shown=$((SECONDS - began)) count=0 ended=0 now=
@@ -109,7 +109,7 @@ show_progress() {
     printf '\r%s\033[K' "${line:0:79}" >&2
 }
 
-# A number for the kit and the sources of all crates that one rests on.
+# A hash of the kit and of the sources of a crate and all that it depends on.
 sources_of() { # CRATE
     # shellcheck disable=SC2046 # the names of crates are words
     {
@@ -118,19 +118,19 @@ sources_of() { # CRATE
     } | sha256sum
 }
 
-# Whether some files are those that were made from the sources as they are now.
+# Whether some files are unchanged since they were made, and were made from the current sources.
 up_to_date() { # MARK CRATE FILE...
     mark=$1 made_from=$(sources_of "$2")
     shift 2
     [ "$(cat "$mark" 2>/dev/null)" = "$made_from $(sha256sum "$@" 2>/dev/null)" ]
 }
 
-# After `up_to_date` and a proof: from then on the files are up to date.
+# Notes, after a call of `up_to_date` and a proof, that the files are up to date.
 now_up_to_date() { # FILE...
     echo "$made_from $(sha256sum "$@")" >"$mark"
 }
 
-# Leaves the lister in target/bin, which is proved where it or a source has changed.
+# Leaves the lister in target/bin. It is proved anew if it or a source has changed.
 build_lister() {
     find_kit
     up_to_date target/lister.made-from lister target/bin/lister && return
@@ -138,8 +138,8 @@ build_lister() {
     now_up_to_date target/bin/lister
 }
 
-# Leaves the library for x86-64 in `library`, and in `module` the LLVM bitcode that it was compiled from, which does for other machines
-# too. It is proved where one of them or a source has changed.
+# Leaves the library for x86-64 in the file `library`, and in `module` the LLVM bitcode that it was compiled from, which can be compiled
+# for other machines too. It is proved anew if one of them or a source has changed.
 build_library() {
     find_kit
     library=target/staticlib/libterminal.a module=target/module/terminal.bc
@@ -151,7 +151,7 @@ build_library() {
 }
 
 compile_library() {
-    # What it rests on first, as `rt check` proves several crates at once.
+    # First what it depends on, as `rt check` proves several crates at once.
     # shellcheck disable=SC2046 # the names of crates are words
     rt check $(rests_on terminal | grep -vx terminal) || return
     shadow_kit target/module/kit
@@ -159,7 +159,7 @@ compile_library() {
     RATTLE_HOME=$PWD/target/module/kit rt staticlib terminal
 }
 
-# The kit as it is, but for a clang that keeps the module it is given.
+# Makes a copy of the kit by links, in which clang also keeps the module that it is given.
 shadow_kit() { # FOLDER
     rm -rf "$1"
     mkdir -p "$1/$tools/bin"
@@ -177,7 +177,7 @@ SCRIPT
     chmod +x "$1/$tools/bin/clang"
 }
 
-# Links to all that a folder has, but for one name.
+# Links to everything in a folder except one name.
 link_but() { # FROM TO NAME
     for file in "$1"/*; do
         [ "${file##*/}" = "$3" ] || ln -s "$file" "$2/"

@@ -14,7 +14,7 @@ macro_rules! causes {
         }
 
         impl Cause {
-            /// All causes, by rising numbers.
+            /// All causes, in ascending order of their numbers.
             pub const ALL: &'static [Cause] = &[$(Cause::$name,)*];
 
             /// The cause with this number.
@@ -40,7 +40,7 @@ causes! {
     NoMark = 3, "a record should begin here, and there is none of the five marks";
     CutRecord = 4, "the pool ends inside this record";
     LongText = 5, "a length byte is over its limit";
-    /// Never given: no record is short enough.
+    /// Never given: even the shortest records are too long for that many.
     ManyRecords = 6, "the pool has over 8,192 records";
     ShortTable = 7, "the working table has fewer entries than the pool has records";
     BadSize = 20, "the size offered is 0 or over 65,535";
@@ -74,8 +74,8 @@ impl Cause {
         self as u32
     }
 
-    /// Nothing, or the cause with this number. The library is proved to give
-    /// no other number.
+    /// `Ok` for 0, otherwise the cause with this number. The library is proved
+    /// to give no other number.
     pub(crate) fn check(number: u32) -> Result<(), Cause> {
         match number {
             0 => Ok(()),

@@ -19,24 +19,24 @@ pub mod commands {
 
 /// The error bits of a judgement and of an acknowledge.
 pub mod errors {
-    /// The command is none that carries a value.
+    /// The command does not carry a value.
     pub const COMMAND: u8 = 0x01;
     /// There is no such device element.
     pub const ELEMENT: u8 = 0x02;
-    /// Its list has no process data or property of that DDI.
+    /// The element's list has no process data or property with that DDI.
     pub const DDI: u8 = 0x04;
     /// The trigger method of commands 4 to 8 is not offered.
     pub const TRIGGER: u8 = 0x08;
-    /// Commands 3 and 10, and it is not settable.
+    /// Command 3 or 10, and the data is not settable.
     pub const SETTABLE: u8 = 0x10;
-    /// Commands 4 and 5 with a negative value.
+    /// Command 4 or 5 with a negative value.
     pub const INTERVAL: u8 = 0x20;
 }
 
 /// A process data message.
 #[derive(Clone, Copy, Debug, PartialEq, Eq)]
 pub enum Message {
-    /// Those of [`commands`] that carry a value: 2 to 8 and 10.
+    /// One of the [`commands`] that carry a value: 2 to 8 and 10.
     Value {
         command: u8,
         element: u16,
@@ -46,7 +46,7 @@ pub enum Message {
     Acknowledge {
         element: u16,
         ddi: u16,
-        /// Those of [`errors`], any of them together.
+        /// Any combination of the bits in [`errors`].
         errors: u8,
         /// The command that is acknowledged, 0 to 15.
         answered: u8,
@@ -75,7 +75,7 @@ impl Message {
         })
     }
 
-    /// Writes the message into the first eight bytes; the others stay.
+    /// Writes the message into the first eight bytes; the others are unchanged.
     pub fn write(&self, to: &mut [u8]) -> Result<(), Cause> {
         Cause::check(match *self {
             Message::Value {
@@ -94,9 +94,9 @@ impl Message {
     }
 }
 
-/// Judges a command to the device over an accepted pool and gives the first of
-/// the [`errors`] that applies, 0 where the device takes it. The table is
-/// filled whenever the pool is read.
+/// Judges a command to the device by its accepted pool and gives the first of
+/// the [`errors`] that applies, or 0 if the device takes the command. The table
+/// is filled whenever the pool is read.
 pub fn judge(
     pool: &[u8],
     table: &mut [Record],
@@ -111,7 +111,7 @@ pub fn judge(
     Cause::check(number).map(|()| error)
 }
 
-/// How a value is shown, as a value presentation says it.
+/// How a value is shown, taken from a value presentation.
 #[derive(Clone, Copy, Debug, PartialEq)]
 pub struct Presentation {
     pub offset: i32,

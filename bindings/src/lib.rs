@@ -1,10 +1,10 @@
-//! The proved core of a task controller after ISO 11783-10, for Rust.
+//! The proved core of a task controller according to ISO 11783-10, for Rust.
 //!
 //! Pools are read and checked over a lent working table, clients' sessions
 //! receive and activate them, and process data messages and log records are
 //! read and written. Each function calls the compiled, proved library; nothing
-//! is worked out here a second time. No call takes a heap or keeps anything,
-//! and nothing of `std` is used.
+//! is computed here a second time. No call uses a heap or keeps any state, and
+//! nothing of `std` is used.
 //!
 //! A call that is refused gives its [`Cause`], with a place or a fault where
 //! there is one, and leaves lent memory as it was unless its description says

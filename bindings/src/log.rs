@@ -1,4 +1,4 @@
-//! The time log: records read and written, logs read.
+//! The time log: reads and writes records, and reads whole logs.
 
 use crate::c::{self, LogFields};
 use crate::Cause;
@@ -22,20 +22,20 @@ pub mod layout {
 /// A log record that was read.
 #[derive(Clone, Copy, Debug, PartialEq, Eq)]
 pub struct LogRecord {
-    /// Bytes of the record.
+    /// Length of the record in bytes.
     pub length: usize,
-    /// Ordinals and values, at the start of the lent lists.
+    /// How many ordinals and values stand at the start of the lent lists.
     pub count: usize,
-    /// A field that the layout does not mark is 0.
+    /// Fields that the layout does not mark are 0.
     pub fields: LogFields,
 }
 
-/// A log that is not read: why, and where its record starts.
+/// Why a log is not read, and where the record starts that is at fault.
 #[derive(Clone, Copy, Debug, PartialEq, Eq)]
 #[non_exhaustive]
 pub struct LogRefusal {
     pub cause: Cause,
-    /// None where the layout is bad: then no record was looked at.
+    /// `None` if the layout is bad: then no record was looked at.
     pub start: Option<usize>,
 }
 
@@ -75,8 +75,8 @@ pub fn read_record(
 }
 
 /// Writes a record of the first `count` ordinals and values and gives its
-/// length; the bytes behind it stay. Fields that the layout does not mark are
-/// neither judged nor written.
+/// length; the bytes after it are unchanged. Fields that the layout does not
+/// mark are neither checked nor written.
 pub fn write_record(
     to: &mut [u8],
     layout: u16,

@@ -1,9 +1,9 @@
-//! The fields of a record: what stands in the pool where the record starts.
+//! The fields of a record, read from the pool at the record's start.
 
 use crate::c::{self, Record, Span};
 use crate::{Kind, Presentation};
 
-/// The ID of no record: a presentation of this ID means none.
+/// As a presentation's ID: there is no presentation.
 pub const NO_ID: u16 = 65_535;
 
 /// The property bits of a process data.
@@ -33,9 +33,9 @@ pub enum Object<'pool> {
 }
 
 impl Record {
-    /// The fields of the record, which stands in this pool. None of an entry
-    /// that no call has written, and where a text would not lie within the
-    /// pool: then it is another pool than the table was filled from.
+    /// The fields of this record of the pool. `None` for an entry that no call
+    /// has written, and if a text would not lie within the pool: then the table
+    /// was filled from another pool.
     pub fn object<'pool>(&self, pool: &'pool [u8]) -> Option<Object<'pool>> {
         let start = self.start;
         Some(match self.kind()? {
@@ -70,9 +70,9 @@ pub struct Device<'pool> {
 }
 
 impl<'pool> Device<'pool> {
-    /// The device that starts at this place. Nothing is judged: the bytes are
-    /// read as though a whole device stood there, those past the pool's end as
-    /// 0. None where a text or label would not lie within the pool.
+    /// The device that starts at this place. Nothing is checked: the bytes are
+    /// read as though a whole device stood there, and those past the pool's end
+    /// as 0. `None` if a text or label would not lie within the pool.
     pub fn read(pool: &'pool [u8], start: u16) -> Option<Self> {
         let mut fields = c::Device::default();
         c::read_device(&mut fields, pool, start);
@@ -123,8 +123,8 @@ impl<'pool> DeviceElement<'pool> {
         })
     }
 
-    /// The IDs of its list, each of a process data or property where the pool
-    /// is accepted.
+    /// The IDs in its list; in an accepted pool each is that of a process data
+    /// or property.
     pub fn entries(&self) -> impl Iterator<Item = u16> + 'pool {
         let (pool, start) = (self.pool, self.start);
         (0..self.count).map(move |n| c::read_entry(pool, start, n))
@@ -136,9 +136,9 @@ impl<'pool> DeviceElement<'pool> {
 #[non_exhaustive]
 pub struct ProcessData<'pool> {
     pub ddi: u16,
-    /// Those of [`properties`], any of them together.
+    /// Any combination of the bits in [`properties`].
     pub properties: u8,
-    /// Those of [`triggers`], any of them together.
+    /// Any combination of the bits in [`triggers`].
     pub triggers: u8,
     pub designator: &'pool [u8],
     /// ID of its value presentation.
@@ -292,7 +292,7 @@ mod tests {
     #[test]
     fn a_text_that_is_not_in_the_pool_is_none() {
         let pool = named();
-        // Cut inside the designator, which the length byte announces whole.
+        // Cut inside the designator, whose length byte is still there.
         assert_eq!(Device::read(&pool[..10], 0), None);
         assert_eq!(Device::read(&[], 65_535), None);
         assert_eq!(DeviceElement::read(&pool, u16::MAX), None);

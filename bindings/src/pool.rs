@@ -23,8 +23,8 @@ pub enum Kind {
 }
 
 impl Record {
-    /// The kind of a record that was read; none of an entry that no call has
-    /// written.
+    /// The kind of a record that was read; `None` for an entry that no call
+    /// has written.
     pub fn kind(&self) -> Option<Kind> {
         match self.kind {
             1 => Some(Kind::Device),
@@ -54,7 +54,8 @@ impl Fault {
     /// The fault buffer as C takes it.
     fn words(faults: &mut [Fault]) -> &mut [u16] {
         let length = Fault::WORDS * faults.len();
-        // SAFETY: a fault is three words with no gap and may hold any.
+        // SAFETY: a fault is three words without padding, and any words are a
+        // valid fault.
         unsafe { slice::from_raw_parts_mut(faults.as_mut_ptr().cast(), length) }
     }
 }
@@ -66,13 +67,13 @@ impl fmt::Display for Fault {
     }
 }
 
-/// A pool that is not read: why, and where.
+/// Why a pool is not read, and where.
 #[derive(Clone, Copy, Debug, PartialEq, Eq)]
 #[non_exhaustive]
 pub struct Refusal {
     pub cause: Cause,
     /// Where the bad record or length byte is, or how many entries the table
-    /// needs ([`Cause::ShortTable`]); none for another cause.
+    /// needs ([`Cause::ShortTable`]); `None` for other causes.
     pub place: Option<usize>,
 }
 
@@ -132,25 +133,25 @@ impl Labels {
     }
 }
 
-/// Reads a pool and gives the count of its records, which the table then
-/// starts with; later entries stay. A refusal leaves the table as it was.
+/// Reads a pool into the start of the table and gives the count of its
+/// records; later entries are unchanged. A refusal leaves the table as it was.
 pub fn read(pool: &[u8], table: &mut [Record]) -> Result<usize, Refusal> {
     let mut value = 0;
     let number = c::read(pool, table, &mut value);
     Refusal::check(number, value)
 }
 
-/// Checks a pool and gives the full count of its faults, 0 where it is
-/// accepted. The buffer gets the first ones in order, as many as fit; the
-/// table is filled as in reading. A refusal leaves both as they were.
+/// Checks a pool and gives the full count of its faults, 0 if it is accepted.
+/// The buffer gets the first ones in order, as many as fit; the table is
+/// filled as by [`read`]. A refusal leaves both as they were.
 pub fn check(pool: &[u8], table: &mut [Record], faults: &mut [Fault]) -> Result<usize, Refusal> {
     let mut value = 0;
     let number = c::check(pool, table, Fault::words(faults), &mut value);
     Refusal::check(number, value)
 }
 
-/// Whether a text keeps rule 4: well-formed UTF-8 without a byte order mark
-/// in front, of at most 32 characters.
+/// Whether a text keeps rule 4: well-formed UTF-8 of at most 32 characters that
+/// does not begin with a byte order mark.
 pub fn text_is_sound(text: &[u8]) -> bool {
     c::text_is_sound(text)
 }

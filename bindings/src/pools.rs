@@ -1,4 +1,4 @@
-//! Pools of the tests: the worked ones, and two whose fields all differ.
+//! Pools for the tests: the worked examples, and two whose fields all differ.
 
 use std::vec::Vec;
 

@@ -11,7 +11,7 @@ use core::fmt;
 #[non_exhaustive]
 pub struct SessionRefusal {
     pub cause: Cause,
-    /// As for a pool that is not read.
+    /// As in [`Refusal`](crate::Refusal).
     pub place: Option<usize>,
     /// The pool's first fault, after [`Cause::Faulty`].
     pub fault: Option<Fault>,
@@ -31,8 +31,8 @@ impl Error for SessionRefusal {}
 /// One client's session: a pool is offered, transferred in pieces into the
 /// staging area and activated into the kept area.
 ///
-/// A session is worth what its areas hold: lend the same two to all calls, and
-/// leave them unaltered between calls.
+/// A session is only valid together with its areas: lend the same two to all
+/// calls, and leave them unaltered between calls.
 #[derive(Debug, PartialEq, Eq)]
 pub struct Session {
     value: c::Session,
@@ -46,8 +46,8 @@ impl Session {
         }
     }
 
-    /// A session from its value, such as one that was stored. A value that
-    /// no calls lead to is refused by each call.
+    /// A session from its value, such as one that was stored. A value that no
+    /// sequence of calls leads to is refused by every call.
     pub fn from_value(value: c::Session) -> Self {
         Session { value }
     }
@@ -64,22 +64,22 @@ impl Session {
         self.value.active == 1
     }
 
-    /// Bytes of the pool that is offered.
+    /// Size of the offered pool in bytes.
     pub fn announced(&self) -> usize {
         self.value.announced as usize
     }
 
-    /// Bytes that have arrived of it.
+    /// How many bytes of the offered pool have arrived.
     pub fn received(&self) -> usize {
         self.value.received as usize
     }
 
-    /// Bytes of the pool that the kept area starts with.
+    /// Size in bytes of the kept pool, with which the kept area starts.
     pub fn kept(&self) -> usize {
         self.value.kept as usize
     }
 
-    /// Announces the size of a pool; an offer before it is forgotten. Of the
+    /// Announces the size of a pool; an earlier offer is forgotten. Of the
     /// areas only the lengths matter.
     pub fn offer(
         &mut self,
@@ -90,16 +90,16 @@ impl Session {
         self.take(|step, value| c::session_offer(step, value, size, staging, kept))
     }
 
-    /// Takes a piece into staging, behind what has arrived.
+    /// Takes a piece into staging, after what has already arrived.
     pub fn transfer(&mut self, piece: &[u8], staging: &mut [u8]) -> Result<(), SessionRefusal> {
         self.take(|step, value| c::session_transfer(step, value, piece, staging))
     }
 
     /// Activates the pool that is offered, or else the one that is kept. An
-    /// offered pool has to be there whole and accepted; it is then kept. One
-    /// that does not divide into records or has a fault must be offered
-    /// again; after [`Cause::StoppedEarly`] and [`Cause::ShortTable`] the
-    /// offer stands.
+    /// offered pool must have arrived in full and be accepted; it is then kept.
+    /// One that does not divide into records or has a fault must be offered
+    /// again; after [`Cause::StoppedEarly`] and [`Cause::ShortTable`] the offer
+    /// stands.
     pub fn activate(
         &mut self,
         staging: &[u8],
@@ -109,12 +109,12 @@ impl Session {
         self.take(|step, value| c::session_activate(step, value, staging, kept, table))
     }
 
-    /// Ends being active; the pool stays kept.
+    /// Makes the session inactive; the pool stays kept.
     pub fn deactivate(&mut self) -> Result<(), SessionRefusal> {
         self.take(c::session_deactivate)
     }
 
-    /// Forgets the pool that is kept, and an offer.
+    /// Forgets the kept pool and any offer.
     pub fn delete(&mut self) -> Result<(), SessionRefusal> {
         self.take(c::session_delete)
     }
@@ -124,7 +124,8 @@ impl Session {
         self.take(c::session_lost)
     }
 
-    /// The value after a call is the call's, also where it is refused.
+    /// Makes a call and takes the session value that it gives, even if it is
+    /// refused.
     fn take(&mut self, call: impl FnOnce(&mut Step, c::Session)) -> Result<(), SessionRefusal> {
         let mut step = Step::default();
         call(&mut step, self.value);

@@ -27,17 +27,17 @@ const STRUCTS: [(&str, &str, &str); 16] = [
     ("log_reading", "Log", "LogOutcome"),
 ];
 
-/// Parameters that have a short name in Rattle: it, the type and C's name.
+/// Parameters with a short name in Rattle: that name, the type and C's name.
 const NAMES: [(&str, &str, &str); 3] = [
     ("p", "&[u8]", "pool"),
     ("s", "Session", "session"),
     ("s", "&[u8]", "text"),
 ];
 
-/// A field whose name in C is a word of Rattle and Rust.
+/// A field whose name in C is a keyword of Rattle and Rust.
 const FIELDS: [(&str, &str); 1] = [("element_type", "type")];
 
-/// A result of more bytes goes through a pointer.
+/// A result of more bytes is returned through a pointer.
 const LARGEST_BY_VALUE: usize = 16;
 
 const SCALARS: [(&str, &str); 9] = [
@@ -175,7 +175,7 @@ fn error_bits_are_the_same() {
     assert_eq!(enumerators("lachsbrille_error"), BTreeMap::from(bits));
 }
 
-/// The C tests put every area that is lent under watch.
+/// The C tests watch every area that is lent.
 #[test]
 fn every_function_with_lent_memory_is_watched() {
     let lending = read("tests/interface/lending.c");
@@ -186,7 +186,7 @@ fn every_function_with_lent_memory_is_watched() {
     }
 }
 
-/// Stack figures stand in the header and in the README, a row for each call.
+/// The header and the README have the same stack figures, a row for each call.
 #[test]
 fn stack_figures_are_the_same() {
     let figures = stack_rows(&read("include/lachsbrille.h"), " *     ");
@@ -194,7 +194,7 @@ fn stack_figures_are_the_same() {
     assert_eq!(figures, stack_rows(&read("README.md"), "| "));
 }
 
-/// The rows of a text that end in a number: what stands before it, and the
+/// The rows of a text that end in a number: what comes before it, and the
 /// number.
 fn stack_rows(text: &str, start: &str) -> Vec<(String, u32)> {
     let rows = text.lines().filter_map(|line| line.strip_prefix(start));
@@ -288,7 +288,7 @@ fn header() -> String {
     lines.join("\n")
 }
 
-/// A declaration with one blank between words, and none behind a star.
+/// A declaration with one blank between words, and none after a star.
 fn spelled(declaration: &str) -> String {
     let words: Vec<&str> = declaration.split_whitespace().collect();
     words.join(" ").replace("* ", "*")
@@ -350,7 +350,8 @@ fn size_of(name: &str) -> Option<usize> {
     line.split(' ').next()?.parse().ok()
 }
 
-/// C's name of a type in a source of this crate, which says whose others are.
+/// C's name of a type in a source of the crate `home`; the source says which
+/// crates other types are from.
 fn c_type(name: &str, home: &str, source: &str) -> String {
     if let Some((_, c)) = SCALARS.iter().find(|(scalar, _)| *scalar == name) {
         return (*c).to_owned();

@@ -29,7 +29,7 @@ fn size_of_field<Struct, Field>(_: impl Fn(&Struct) -> &Field) -> usize {
     size_of::<Field>()
 }
 
-/// `type` is a word of Rust.
+/// `type` is a keyword of Rust.
 fn c_name(field: &str) -> &str {
     match field {
         "element_type" => "type",

@@ -15,7 +15,7 @@ const NUMBER_STEPS: [usize; 4] = [1, 4_095, 257, 1_501];
 /// Types of device elements other than device.
 const OTHER_TYPES: [u8; 6] = [2, 3, 4, 5, 6, 7];
 
-/// How many records of which kind, how they hang together.
+/// How many records there are of each kind, and how they are connected.
 struct Plan {
     elements: usize,
     data: usize,
@@ -23,7 +23,7 @@ struct Plan {
     fewest_entries: usize,
     most_entries: usize,
     longest_text: usize,
-    /// DDIs are drawn from so many.
+    /// How many different DDIs are drawn from.
     ddis: usize,
     tree: Tree,
 }
@@ -31,7 +31,7 @@ struct Plan {
 /// The parents of device elements.
 #[derive(Clone, Copy)]
 enum Tree {
-    /// All are right below the device.
+    /// All are directly below the device.
     Flat,
     /// Each is below the one before.
     Chain,
@@ -49,7 +49,7 @@ impl Plan {
         }
     }
 
-    /// Up to so many device elements, data and presentations.
+    /// Up to the given numbers of device elements, data and presentations.
     fn of(random: &mut Random, most: [usize; 3]) -> Self {
         let small = most[1] < 100;
         Plan {
@@ -85,7 +85,7 @@ impl Plan {
     }
 }
 
-/// Different numbers, from 0 up to a bound.
+/// Different numbers below a bound.
 struct Series {
     bound: usize,
     step: usize,
@@ -187,7 +187,7 @@ impl Maker<'_> {
         elements
     }
 
-    /// The device element above this one, or none for the device.
+    /// The device element above this one, or `None` for the device.
     fn above(&mut self, index: usize) -> Option<usize> {
         match self.plan.tree {
             Tree::Flat => None,
@@ -269,7 +269,7 @@ pub fn fresh(random: &mut Random, objects: &[Object], kind: Kind) -> Object {
     object
 }
 
-/// An ID that no record carries, nor 65535.
+/// An ID that no record carries, other than 65535.
 pub fn unused_id(random: &mut Random, objects: &[Object]) -> u16 {
     loop {
         let id = random.between(1, IDS) as u16;

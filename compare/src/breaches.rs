@@ -1,4 +1,4 @@
-//! Changes to a pool's records, each of which breaches a rule for certain.
+//! Changes to a pool's records, each of which certainly breaches a rule.
 
 use crate::accepted::{fresh, unused_id};
 use crate::objects::{named, Object, GREATEST_NUMBER, GREATEST_SCALE, LEAST_SCALE, NO_REFERENCE};
@@ -7,7 +7,8 @@ use crate::shape::KINDS;
 use crate::wording::unsound_text;
 use second::{Fault, Kind};
 
-/// Gives a fault that the changed pool has; others may follow from it.
+/// Makes a change and gives a fault that the pool then has; the change may
+/// cause others too.
 type Breach = fn(&mut Random, &mut Vec<Object>) -> Fault;
 
 const BREACHES: [Breach; 22] = [
@@ -37,7 +38,7 @@ const BREACHES: [Breach; 22] = [
 /// How many ways there are to breach a rule.
 pub const WAYS: usize = BREACHES.len();
 
-/// Scales on both sides of the range, zeros, infinities and what is none.
+/// Scales on both sides of the range, zeros, infinities and NaNs.
 pub const UNFIT_SCALES: [u32; 16] = [
     0,
     1,
@@ -57,13 +58,13 @@ pub const UNFIT_SCALES: [u32; 16] = [
     0xFFFF_FFFF,
 ];
 
-/// Breaches a rule in any way.
+/// Breaches a rule in a random way.
 pub fn breach(random: &mut Random, objects: &mut Vec<Object>) -> Fault {
     let way = random.below(WAYS);
     breach_in_way(way, random, objects)
 }
 
-/// Breaches a rule in one of the ways there are.
+/// Breaches a rule in the given way.
 pub fn breach_in_way(way: usize, random: &mut Random, objects: &mut Vec<Object>) -> Fault {
     BREACHES[way](random, objects)
 }
@@ -76,7 +77,7 @@ fn fault(index: usize, rule: u8, item: usize) -> Fault {
     }
 }
 
-/// Sees to it that there are so many records of these kinds.
+/// Adds records until there are at least `count` of these kinds.
 fn provide(random: &mut Random, objects: &mut Vec<Object>, kinds: &[Kind], count: usize) {
     let is_wanted = |object: &&Object| kinds.contains(&object.kind);
     for _ in objects.iter().filter(is_wanted).count()..count {
@@ -86,14 +87,14 @@ fn provide(random: &mut Random, objects: &mut Vec<Object>, kinds: &[Kind], count
     }
 }
 
-/// The index of any record of these kinds; there is one.
+/// The index of any record of these kinds, of which there must be one.
 fn any_of(random: &mut Random, objects: &[Object], kinds: &[Kind]) -> usize {
     let is_wanted = |index: &usize| kinds.contains(&objects[*index].kind);
     let wanted: Vec<usize> = (0..objects.len()).filter(is_wanted).collect();
     random.pick(&wanted)
 }
 
-/// The index of any record of this kind.
+/// The index of any record of this kind, which is added if there is none.
 fn some(random: &mut Random, objects: &mut Vec<Object>, kind: Kind) -> usize {
     provide(random, objects, &[kind], 1);
     any_of(random, objects, &[kind])
@@ -111,7 +112,7 @@ fn two(random: &mut Random, objects: &mut Vec<Object>, kind: Kind) -> (usize, us
     }
 }
 
-/// The ID that names this very record, a new one if need be.
+/// An ID that names this very record, which gets a new one if necessary.
 fn name_of(random: &mut Random, objects: &mut [Object], index: usize) -> u16 {
     if named(objects, objects[index].id) != Some(index) {
         objects[index].id = unused_id(random, objects);
@@ -125,8 +126,8 @@ fn name_of_any(random: &mut Random, objects: &mut [Object], kinds: &[Kind]) -> u
     name_of(random, objects, index)
 }
 
-/// An ID that names nothing: 65535, which a record may carry all the same, or
-/// one that no record carries.
+/// An ID that names nothing: 65535, even if a record carries it, or one that no
+/// record carries.
 fn name_of_none(random: &mut Random, objects: &mut [Object]) -> u16 {
     match random.below(4) {
         0 => NO_REFERENCE,
@@ -186,7 +187,7 @@ fn text(random: &mut Random, objects: &mut Vec<Object>) -> Fault {
     fault(index, 4, place + 1)
 }
 
-/// One byte of a label, half the time more of them.
+/// Spoils one byte of a label, half the time more of them.
 fn label_bytes(random: &mut Random, objects: &mut Vec<Object>) -> Fault {
     let index = some(random, objects, Kind::Dvc);
     let item = random.between(1, 14);
@@ -316,8 +317,8 @@ fn repeated_number(random: &mut Random, objects: &mut Vec<Object>) -> Fault {
     fault(later, 8, 1)
 }
 
-/// Makes a device element the parent of one above it, or of itself. All that
-/// hung below these two now leads into a ring.
+/// Makes a device element the parent of one above it, or of itself. The chains
+/// of all elements below now lead into a ring.
 fn ring(random: &mut Random, objects: &mut Vec<Object>) -> Fault {
     let below = some(random, objects, Kind::Det);
     let mut above = below;
@@ -332,7 +333,7 @@ fn ring(random: &mut Random, objects: &mut Vec<Object>) -> Fault {
     fault(above, 9, 1)
 }
 
-/// Takes from the pool what each pool must have.
+/// Removes from the pool what every pool must have.
 fn whole_pool(random: &mut Random, objects: &mut Vec<Object>) -> Fault {
     // Some record has to remain.
     provide(random, objects, &[Kind::Dvp], 1);
@@ -378,7 +379,7 @@ fn repeated_ddi(random: &mut Random, objects: &mut Vec<Object>) -> Fault {
     fault(index, 12, last + 2)
 }
 
-/// An ID that names nothing, or a record that no list may name. There is a
+/// An ID that names nothing, or a record that no list may name. There must be a
 /// device element.
 fn name_of_no_data(random: &mut Random, objects: &mut [Object]) -> u16 {
     match random.below(3) {

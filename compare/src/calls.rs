@@ -1,4 +1,4 @@
-//! Calls by both sides, with all memory that they could have changed.
+//! Calls made by both sides, with all memory that they could have changed.
 
 use crate::lent::{noise, Lent, LentPool};
 use crate::library::{self, Answer, Of, ENTRY_WORDS, FAULT_WORDS};
@@ -6,11 +6,11 @@ use crate::shape::KINDS;
 use second::{Fault, Record};
 use std::fmt::Debug;
 
-/// A call that both sides were given.
+/// A call that both sides made.
 pub struct Compared {
-    /// The second implementation's: 0 or a refusal.
+    /// The second implementation's answer: 0 or a refusal.
     pub number: u32,
-    /// Where the library parts from the second implementation.
+    /// Where the library differs from the second implementation.
     pub difference: Option<String>,
 }
 
@@ -22,7 +22,7 @@ pub struct Outcome<Answer> {
     faults: Lent,
 }
 
-/// Reads into a table of so many words.
+/// Reads into a table of `table` words.
 pub fn read(pool: &LentPool, table: usize) -> Compared {
     let second = by_second(table, |table| {
         Answer::of(second::read_pool(pool.bytes(), table))
@@ -31,7 +31,7 @@ pub fn read(pool: &LentPool, table: usize) -> Compared {
     compare(pool, library, second, |answer| answer.number)
 }
 
-/// Checks with a table and a fault buffer of so many words.
+/// Checks with a table and a fault buffer of the given numbers of words.
 pub fn check(pool: &LentPool, table: usize, faults: usize) -> Compared {
     let mut buffer = untouched_faults(faults / FAULT_WORDS);
     let mut second = by_second(table, |table| {
@@ -46,7 +46,7 @@ pub fn check(pool: &LentPool, table: usize, faults: usize) -> Compared {
     compare(pool, library, second, |answer| answer.number)
 }
 
-/// The library's call, with a table of so many words.
+/// The library's call, with a table of `words` words.
 pub fn by_library<Answer>(
     words: usize,
     call: impl FnOnce(&mut [u16]) -> Answer,
@@ -59,7 +59,8 @@ pub fn by_library<Answer>(
     }
 }
 
-/// The second implementation gets as many entries as fit into the words.
+/// The second implementation's call, with as many entries as fit into `words`
+/// words.
 pub fn by_second<Answer>(
     words: usize,
     call: impl FnOnce(&mut [Record]) -> Answer,

@@ -1,5 +1,5 @@
-//! Pools whose IDs, element numbers and DDIs are so few that they collide at
-//! every turn.
+//! Pools with so few different IDs, element numbers and DDIs that these collide
+//! very often.
 
 use crate::breaches::UNFIT_SCALES;
 use crate::objects::{Object, GREATEST_SCALE, LEAST_SCALE};
@@ -14,7 +14,7 @@ struct Maker<'a> {
     most_entries: usize,
 }
 
-/// The records of such a pool, mostly a few.
+/// The records of such a pool, in most cases only a few.
 pub fn objects(random: &mut Random) -> Vec<Object> {
     let most = random.pick(&[4, 10, 10, 20, 20, 120]);
     let records = random.between(1, most);
@@ -65,7 +65,7 @@ impl Maker<'_> {
         }
     }
 
-    /// One of the usual values, now and then one of the others.
+    /// One of the usual values, sometimes one of the others.
     fn mostly<T: Copy>(&mut self, usual: &[T], others: &[T]) -> T {
         let rare = self.random.one_in(8);
         self.random.pick(if rare { others } else { usual })

@@ -10,13 +10,13 @@ const DATA: usize = 12;
 /// Bytes of a list's entry.
 const ENTRY: usize = 2;
 
-/// The library lists IDs of long pools by their remainders by so many.
+/// The library lists the IDs of long pools by their remainders modulo this.
 const ID_HEADS: usize = 8_192;
-/// IDs that have one remainder.
+/// How many IDs have the same remainder.
 const IDS_OF_A_REMAINDER: usize = 0x1_0000 / ID_HEADS;
-/// It lists the DDIs of a long list by their remainders by so many.
+/// It lists the DDIs of a long list by their remainders modulo this.
 const DDI_HEADS: usize = 2_048;
-/// DDIs that have one remainder.
+/// How many DDIs have the same remainder.
 const DDIS_OF_A_REMAINDER: usize = 0x1_0000 / DDI_HEADS;
 
 pub struct Extreme {
@@ -24,7 +24,7 @@ pub struct Extreme {
     pub objects: Vec<Object>,
 }
 
-/// Pools of about so many bytes.
+/// Pools of about `bytes` bytes.
 pub fn extremes(bytes: usize) -> Vec<Extreme> {
     let records = 5_000 * bytes / MAX_POOL_BYTES;
     let entries = 30_000 * bytes / MAX_POOL_BYTES;
@@ -72,7 +72,7 @@ fn root() -> Object {
     Object::root_element(1)
 }
 
-/// Device elements with IDs from 1 on, with this parent to an ID.
+/// Device elements with IDs from 1 on; `parent` gives each ID's parent.
 fn elements(count: usize, parent: impl Fn(u16) -> u16) -> Vec<Object> {
     let mut objects = vec![device(), root()];
     objects.extend((2..=count as u16).map(|id| Object::plain(Kind::Det, id)));
@@ -83,7 +83,7 @@ fn elements(count: usize, parent: impl Fn(u16) -> u16) -> Vec<Object> {
     objects
 }
 
-/// Process data that all carry one ID and name it, too.
+/// Process data that all carry the same ID, which is also their presentation.
 fn equal_ids(count: usize) -> Vec<Object> {
     let mut data = Object::plain(Kind::Dpd, 2);
     data.presentation = 2;
@@ -92,8 +92,8 @@ fn equal_ids(count: usize) -> Vec<Object> {
     objects
 }
 
-/// Process data with IDs from the highest down, all with the last record as
-/// their presentation.
+/// Process data with descending IDs, all with the last record as their
+/// presentation.
 fn falling_ids(count: usize) -> Vec<Object> {
     let mut objects = vec![device(), root()];
     for id in (3..3 + count as u16).rev() {
@@ -105,8 +105,8 @@ fn falling_ids(count: usize) -> Vec<Object> {
     objects
 }
 
-/// A list of entries that name nothing, before others that all name the one
-/// process data.
+/// A list of entries that name nothing, followed by others that all name the
+/// only process data.
 fn named_nothing(nothing: usize, data: usize) -> Vec<Object> {
     let mut element = root();
     element.entries = (0..nothing).map(|index| 1_000 + index as u16).collect();
@@ -139,8 +139,8 @@ fn walks(bytes: usize, again: impl Fn(usize, usize) -> usize) -> Vec<Object> {
     objects
 }
 
-/// The ID of the process data with an index: as many of them as there can be
-/// have one remainder, then the next so many. The remainders 0 and 1 are left
+/// The ID of the process data with an index: as many as possible have the same
+/// remainder, then as many have the next one. The remainders 0 and 1 are left
 /// out: no ID may be 0, and the element has 1.
 fn crowded_id(index: usize) -> u16 {
     (2 + index / IDS_OF_A_REMAINDER + ID_HEADS * (index % IDS_OF_A_REMAINDER)) as u16
@@ -154,8 +154,8 @@ fn crowded_ids(count: usize) -> Vec<Object> {
     objects
 }
 
-/// A list that names process data of different DDIs, and then as often as it
-/// fits the first of them: its ID is looked for past all others of its remainder.
+/// A list that names process data of different DDIs, and then the first of them
+/// as often as fits: its ID is found only after all others of its remainder.
 fn deepest(bytes: usize, ddi: impl Fn(usize) -> usize) -> Vec<Object> {
     let room = bytes - DEVICE - ELEMENT;
     let count = DDIS_OF_A_REMAINDER.min(room / (2 * DATA));
@@ -183,8 +183,8 @@ fn crowded_lists(bytes: usize) -> Vec<Object> {
     listing(different, entries, ddi, |index| index % different)
 }
 
-/// So many process data with crowded IDs, by an index, and a list whose entries
-/// name them by it.
+/// `count` process data with crowded IDs, and a list of entries; `named` gives
+/// the index of the data that an entry names.
 fn listing(
     count: usize,
     entries: usize,
@@ -202,7 +202,7 @@ fn listing(
     objects
 }
 
-/// How many process data and how many entries of one list fit into so many
+/// How many process data and how many entries of one list fit into `bytes`
 /// bytes and make the longest walks.
 fn longest_walks(bytes: usize) -> (usize, usize) {
     let room = bytes - DEVICE - ELEMENT;
@@ -230,7 +230,7 @@ fn long_texts(bytes: usize) -> Vec<Object> {
     objects
 }
 
-/// Devices with all wrong that can be: no other record has more faults a byte.
+/// Devices with as many faults as possible: no other record has more per byte.
 fn most_faults(bytes: usize) -> Vec<Object> {
     let mut device = Object::plain(Kind::Dvc, NO_REFERENCE);
     device.texts = [vec![0xFF], vec![0xFF], vec![0xFF]];

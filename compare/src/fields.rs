@@ -1,5 +1,5 @@
 //! A sound pool with one field changed, to the values around its limits or to
-//! all. What each value breaches is stated here once more.
+//! all values. What each value breaches is stated here independently.
 
 use crate::breaches::UNFIT_SCALES;
 use crate::input::{Class, Input, Known};
@@ -8,7 +8,7 @@ use crate::shape::LABEL_LIMIT;
 use crate::wording::{MALFORMED, MARK};
 use second::{Fault, Kind};
 
-/// Records of the pool. The last four are named by none.
+/// Records of the pool. No other record names the last four.
 const DEVICE: usize = 1;
 const ELEMENT: usize = 7;
 const PROCESS_DATA: usize = 8;
@@ -17,7 +17,7 @@ const PRESENTATION: usize = 10;
 const UNNAMED: [usize; 4] = [ELEMENT, PROCESS_DATA, PROPERTY, PRESENTATION];
 /// An ID that no record carries.
 const NOT_CARRIED: u16 = 500;
-/// Each of so many inputs is listed.
+/// One input in this many is also given to the lister.
 const LISTED_EVERY: usize = 7;
 
 fn sound() -> Vec<Object> {
@@ -40,7 +40,7 @@ fn sound() -> Vec<Object> {
     objects[1].entries = vec![20, 30];
     objects[3].presentation = 40;
     objects[4].presentation = 40;
-    // In one list, 20 and 21 clash, and so do 20 and 31.
+    // In the same list, 20 and 21 clash, and so do 20 and 31.
     for (index, ddi) in [(3, 141), (4, 134), (7, 141), (8, 141)] {
         objects[index].ddi = ddi;
     }
@@ -67,7 +67,7 @@ pub fn inputs() -> Vec<Input> {
 }
 
 impl Sweep {
-    /// Changes one record, which then has these faults as rule and item.
+    /// Changes one record, which then has these faults, given as rule and item.
     fn change(
         &mut self,
         record: usize,
@@ -281,7 +281,7 @@ impl Sweep {
     }
 }
 
-/// Texts about the limits, and whether they are sound.
+/// Texts around the limits, and whether they are sound.
 fn texts() -> Vec<(Vec<u8>, bool)> {
     let mut texts = vec![
         (MARK.to_vec(), false),
@@ -305,7 +305,7 @@ fn texts() -> Vec<(Vec<u8>, bool)> {
         "\u{10FFFF}",
     ] {
         for count in [0, 1, 31, 32, 33] {
-            // The longest have no place for 33.
+            // 33 of the longest characters do not fit into a text.
             let text = character.repeat(count).into_bytes();
             if text.len() <= 128 {
                 texts.push((text, count <= 32));

@@ -22,7 +22,8 @@ pub fn inputs() -> io::Result<Vec<Input>> {
     if vectors.is_empty() {
         return Err(io::Error::other("no pool vectors found"));
     }
-    // Short pools first: the first difference is shown, and is easier to read.
+    // Short pools come first: the first difference is shown, and a short pool
+    // is easier to read.
     let mut inputs = Vec::new();
     inputs.extend(worked_lines());
     inputs.extend(fields::inputs());
@@ -158,8 +159,8 @@ fn mark_inputs(start: &[u8]) -> [Input; 3] {
     ]
 }
 
-/// Pools about the longest that are read, with the most records, with more
-/// than the lister's table holds, and with the longest lists.
+/// Pools of about the greatest length that is read, with the most records, with
+/// more than the lister's table holds, and with the longest lists.
 fn edges() -> Vec<Input> {
     let mut inputs = Vec::new();
     for length in [
@@ -207,7 +208,7 @@ fn shortest_records(count: usize) -> Vec<u8> {
     record.repeat(count)
 }
 
-/// A device element's list, whole and cut to the longest pool and to less.
+/// A device element's list: whole, cut to the longest pool, and cut to less.
 fn list_inputs(entries: usize, inputs: &mut Vec<Input>) {
     let mut shape = Shape::shortest(Kind::Det);
     shape.entries = entries;
@@ -220,7 +221,7 @@ fn list_inputs(entries: usize, inputs: &mut Vec<Input>) {
     }
 }
 
-/// Every start of the vectors and of some small pools.
+/// The vectors and some small pools, cut at every byte.
 fn cuts(vectors: &[Vector]) -> Vec<Input> {
     let mut pools: Vec<(&str, &[u8])> = vectors
         .iter()
@@ -238,14 +239,14 @@ fn cuts(vectors: &[Vector]) -> Vec<Input> {
     inputs
 }
 
-/// Small relatives of the pools that are hard on a checker, and the longest.
+/// The pools that are hard on a checker, in small sizes and in the greatest.
 fn extreme_inputs() -> Vec<Input> {
     let mut inputs = Vec::new();
     for bytes in [600, 6_000, MAX_POOL_BYTES] {
         for extreme in extremes(bytes) {
             let name = format!("{}, {bytes} bytes", extreme.name);
             let input = Input::of_objects(Class::Extremes, name, extreme.objects);
-            // The longest take long, and only the longest.
+            // Only the longest take long.
             let is_longest = bytes == MAX_POOL_BYTES;
             inputs.push(if is_longest {
                 input.with(Effort::Little)
@@ -269,7 +270,7 @@ fn realistic_inputs() -> impl Iterator<Item = Input> {
         })
 }
 
-/// Each breach some times, so that a run without seeded pools has all.
+/// Each breach several times, so that even a run without seeded pools has all.
 fn each_breach() -> impl Iterator<Item = Input> {
     (0..BREACHES_EACH * WAYS).map(|index| {
         let random = &mut Random::for_item(FILLING, index as u64);

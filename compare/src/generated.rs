@@ -20,7 +20,7 @@ pub fn input(seed: u64, index: u64) -> Input {
     }
 }
 
-/// Pools whose fields do not matter to reading and are any bytes.
+/// Pools for reading, in which the fields that do not matter to it are random.
 fn for_reading(random: &mut Random, name: String) -> Input {
     let (class, pool, known) = match random.below(100) {
         0..=30 => sound(random),
@@ -36,7 +36,7 @@ fn accepted_input(random: &mut Random, name: String) -> Input {
     Input::of_objects(Class::Accepted, name, objects).knowing(Known::Faults(Vec::new()))
 }
 
-/// An accepted pool with one change that breaches a rule, or with some.
+/// An accepted pool with one or several changes that breach a rule.
 fn breached(random: &mut Random, name: String) -> Input {
     let mut objects = accepted::objects(random);
     for _ in 1..random.pick(&[1, 1, 1, 1, 2, 3, 5, 12, 30]) {
@@ -65,7 +65,7 @@ fn known_of(pool: &Pool) -> Known {
     }
 }
 
-/// Mostly a few records, now and then some hundred.
+/// Mostly a few records, sometimes a few hundred.
 fn sound_pool(random: &mut Random, fewest: usize) -> Pool {
     let most = random.pick(&[2, 6, 6, 6, 12, 12, 30, 100]);
     let longest_text = random.pick(&[0, 3, 20, 20, TEXT_LIMIT]);
@@ -105,7 +105,7 @@ fn mutate(random: &mut Random, pool: &mut Vec<u8>) {
     }
 }
 
-/// A bad record behind sound ones and often before others, sound or bad: the
+/// A bad record after sound ones and often before others, sound or bad: the
 /// earliest bad one decides.
 fn hostile(random: &mut Random) -> Vec<u8> {
     let mut pool = sound_pool(random, 0).bytes;
@@ -183,8 +183,8 @@ fn wrong_mark(random: &mut Random) -> Vec<u8> {
     record
 }
 
-/// Pools about the longest that are read and with the most records, half of
-/// them spoilt.
+/// Pools of about the greatest length that is read and with the most records,
+/// half of them mutated.
 fn large(random: &mut Random) -> (Class, Vec<u8>, Known) {
     let longest_text = random.pick(&[0, 0, 2, 20, TEXT_LIMIT]);
     let length = match random.below(4) {
@@ -197,8 +197,8 @@ fn large(random: &mut Random) -> (Class, Vec<u8>, Known) {
     spoilt_by_half(random, pool)
 }
 
-/// Mostly shortest records, in number about the lister's table and the most
-/// that a pool holds.
+/// Mostly the shortest records, about as many as the lister's table or a pool
+/// can hold.
 fn dense(random: &mut Random) -> (Class, Vec<u8>, Known) {
     let most = MAX_POOL_BYTES / SHORTEST_RECORD;
     let count = match random.below(3) {

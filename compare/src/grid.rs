@@ -1,6 +1,6 @@
 //! Answers counted by what was asked and what was given.
 
-/// Columns are at least so wide.
+/// The least width of a column.
 const NARROWEST: usize = 9;
 const HEAD: usize = 24;
 
@@ -13,7 +13,7 @@ pub struct Grid {
 }
 
 impl Grid {
-    /// `can_be` tells of a row and a column whether the rules allow for it.
+    /// `can_be` says whether the rules allow the answer of a row and a column.
     pub fn new(
         title: &'static str,
         rows: impl IntoIterator<Item = impl Into<String>>,
@@ -33,8 +33,8 @@ impl Grid {
         }
     }
 
-    /// Counts an answer. One that can't be given is told, though the sides
-    /// agree on it.
+    /// Counts an answer. One that can't be given is an error, even if both
+    /// sides give it.
     pub fn count(&mut self, row: usize, column: &str) -> Result<(), String> {
         let place = self.columns.iter().position(|it| *it == column);
         let cell = place.map(|place| &mut self.cells[row * self.columns.len() + place]);

@@ -75,13 +75,13 @@ pub struct Input {
     pub name: String,
     pub pool: Vec<u8>,
     /// The records that the pool was written from, if its faults are to be
-    /// counted by what led to them.
+    /// counted by their causes.
     pub objects: Vec<Object>,
-    /// What is known beforehand, as a judge over both sides.
+    /// What is known beforehand; both sides are judged by it.
     pub known: Known,
     /// Whether the lister runs too: a process costs far more than a call.
     pub listed: bool,
-    /// How many calls the pool is given to, where its length does not decide.
+    /// How many calls are made with the pool, if its length does not decide it.
     pub effort: Option<Effort>,
 }
 
@@ -89,9 +89,9 @@ pub enum Known {
     Nothing,
     /// The pool was put together from these records.
     Records(Vec<Record>),
-    /// The lister owes this output.
+    /// The lister must give this output.
     Output(String),
-    /// The pool has just these faults.
+    /// The pool has exactly these faults.
     Faults(Vec<Fault>),
     /// The pool has this fault.
     Fault(Fault),

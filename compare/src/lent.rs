@@ -1,9 +1,9 @@
-//! Memory that is lent to a call, between guards that are lent to nobody.
+//! Memory that is lent to a call, between guards that are not lent.
 
 use std::fmt::Display;
 
-/// Places of a guard. Under AddressSanitizer there is none: a block is lent
-/// whole, and the sanitizer sees each access outside it, reads too.
+/// Length of a guard. Under AddressSanitizer there is none: a whole block is
+/// lent, and the sanitizer sees each access outside it, including reads.
 const GUARD: usize = if cfg!(address_sanitizer) { 0 } else { 16 };
 
 /// A list of words.
@@ -13,8 +13,8 @@ pub struct Lent {
 }
 
 impl Lent {
-    /// A list of so many words that starts with these entries. Words that
-    /// make no whole entry look like the guard behind them.
+    /// A list of `words` words that starts with these entries. Words that make
+    /// no whole entry look like the guard after them.
     pub fn new<const ENTRY: usize>(
         entries: impl Iterator<Item = [u16; ENTRY]>,
         words: usize,
@@ -33,7 +33,7 @@ impl Lent {
         &mut self.memory[GUARD..end]
     }
 
-    /// Says where two lists of one length part, guards included.
+    /// Says where two lists of the same length differ, guards included.
     pub fn parting(&self, name: &str, other: &Lent) -> Option<String> {
         if self.memory == other.memory {
             return None;
@@ -95,7 +95,7 @@ impl Place for i32 {
     }
 }
 
-/// An area of bytes or values. Calls may change it; where they may not, it is
+/// An area of bytes or values. Calls may change it; if they may not, it is
 /// compared with one that was not lent.
 pub struct LentArea<T = u8> {
     memory: Vec<T>,
@@ -118,7 +118,7 @@ impl<T: Place> LentArea<T> {
         &mut self.memory[GUARD..end]
     }
 
-    /// Says where two areas of one length part, guards included.
+    /// Says where two areas of the same length differ, guards included.
     pub fn parting(&self, name: &str, other: &LentArea<T>) -> Option<String> {
         if self.memory == other.memory {
             return None;
@@ -138,7 +138,7 @@ fn guarded<T: Place>(contents: &[T]) -> Vec<T> {
     [&guard, contents, &guard].concat()
 }
 
-/// So many places that no call writes by chance.
+/// `length` places with contents that no call writes by chance.
 pub fn untouched<T: Place>(length: usize) -> Vec<T> {
     (0..length).map(T::noise).collect()
 }

@@ -1,7 +1,7 @@
 //! Compares the proved library and lister with the second implementation: the
-//! program makes all comparisons, and a fuzzer makes those it comes upon.
+//! program makes all comparisons, and a fuzzer those that its inputs lead to.
 
-// The bindings alone call C.
+// Only the bindings call C.
 #![forbid(unsafe_code)]
 
 pub mod accepted;

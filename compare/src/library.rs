@@ -1,5 +1,5 @@
-//! The proved static library's reading and checking, by its bindings, and what
-//! the second implementation gives in the library's form.
+//! Reading and checking by the proved static library, through its bindings, and
+//! the second implementation's answers in the library's form.
 
 pub use lachsbrille::c::text_is_sound;
 
@@ -11,10 +11,10 @@ pub const ENTRY_WORDS: usize = TableEntry::WORDS;
 /// Words of a fault: record, rule, item.
 pub const FAULT_WORDS: usize = 3;
 
-/// No call gives this place: it shows where none was written.
+/// A place that no call gives: it shows that none was written.
 pub const UNWRITTEN: usize = usize::MAX;
 
-/// What the library would give where the second implementation gave this.
+/// Converts what the second implementation gives into the library's form.
 pub trait Of<Theirs> {
     fn of(theirs: Theirs) -> Self;
 }
@@ -27,14 +27,14 @@ pub struct Answer {
     pub value: usize,
 }
 
-/// Reads `pool` with the proved library; the table counts words.
+/// Reads `pool` with the proved library; the table consists of words.
 pub fn read(pool: &[u8], table: &mut [u16]) -> Answer {
     let mut value = UNWRITTEN;
     let number = c::read(pool, TableEntry::table(table), &mut value);
     Answer { number, value }
 }
 
-/// Checks `pool` with the proved library; table and faults count words.
+/// Checks `pool` with the proved library; table and faults consist of words.
 pub fn check(pool: &[u8], table: &mut [u16], faults: &mut [u16]) -> Answer {
     let mut value = UNWRITTEN;
     let number = c::check(pool, TableEntry::table(table), faults, &mut value);

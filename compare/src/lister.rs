@@ -5,7 +5,7 @@ use std::path::PathBuf;
 use std::process::{Child, Command, Stdio};
 use std::thread;
 
-/// Odd on purpose: the lister has to put a long pool together from pieces.
+/// Odd on purpose: the lister has to assemble a long pool from pieces.
 const PIECE: usize = 4_093;
 
 pub struct Lister {

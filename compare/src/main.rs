@@ -31,7 +31,7 @@ fn main() -> ExitCode {
 
 fn run(arguments: impl Iterator<Item = String>) -> Result<bool, String> {
     let mut options = parse(arguments)?;
-    // A whole path: a bare name would be searched for elsewhere.
+    // An absolute path: a bare name would be searched for elsewhere.
     options.lister = options
         .lister
         .canonicalize()

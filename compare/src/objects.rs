@@ -2,9 +2,9 @@
 
 use second::Kind;
 
-/// As a reference it names nothing.
+/// The ID that as a reference names nothing.
 pub const NO_REFERENCE: u16 = 65_535;
-/// Scales in range lie from the first to the last of these, as bits.
+/// The least and the greatest scale in range, as bits.
 pub const LEAST_SCALE: u32 = 0x322B_CC77;
 pub const GREATEST_SCALE: u32 = 0x4CBE_BC20;
 pub const MOST_CHARACTERS: usize = 32;
@@ -43,7 +43,7 @@ pub struct Object {
 }
 
 impl Object {
-    /// A record without texts, entries and references, save that a device
+    /// A record without texts, entries and references, except that a device
     /// element's parent is the device. A device element is a function.
     pub fn plain(kind: Kind, id: u16) -> Self {
         Object {
@@ -69,7 +69,7 @@ impl Object {
         }
     }
 
-    /// A plain device element, save that it is of type device.
+    /// A plain device element, except that it is of type device.
     pub fn root_element(id: u16) -> Self {
         Object {
             element_type: DEVICE_TYPE,

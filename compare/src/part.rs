@@ -25,7 +25,7 @@ impl Report {
     }
 }
 
-/// What was compared of one part, and its answers.
+/// How much was compared in one part, and the answers.
 pub struct Part {
     name: &'static str,
     grids: Vec<Grid>,
@@ -44,7 +44,7 @@ impl Part {
     }
 
     /// Counts a call of both sides. The outcome is the column of its answer in
-    /// this row of a grid, or where the sides part.
+    /// this row of a grid, or where the sides differ.
     pub fn take(
         &mut self,
         grid: usize,
@@ -59,7 +59,7 @@ impl Part {
         }
     }
 
-    /// Counts an answer in one more grid.
+    /// Counts an answer in this row and column of a grid.
     pub fn count(&mut self, grid: usize, row: usize, column: &str, input: impl FnOnce() -> String) {
         if let Err(what) = self.grids[grid].count(row, column) {
             self.note(&what, input);

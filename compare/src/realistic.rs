@@ -1,4 +1,4 @@
-//! Sound pools of the mix that implements send.
+//! Sound pools with a mix of records like that of real implements.
 
 use crate::objects::{Object, DEVICE_TYPE, SECTION_TYPE};
 use crate::random::Random;
@@ -7,9 +7,10 @@ use second::Kind;
 const SEED: u64 = 11783;
 const MOST_ENTRIES: usize = 12;
 const LONGEST_TEXT: usize = 24;
-/// A property with the longest text drawn here.
+/// Bytes of a property with the longest text drawn here.
 const LONGEST_DATA: usize = 14 + LONGEST_TEXT;
-/// A device element with the longest list, its data and a presentation.
+/// Bytes of a device element with the longest list, its data and a
+/// presentation.
 const LONGEST_GROUP: usize = 13 + LONGEST_TEXT + MOST_ENTRIES * (2 + LONGEST_DATA) + 21;
 
 struct Maker {
@@ -19,8 +20,8 @@ struct Maker {
     elements: u16,
 }
 
-/// A device, then device elements with the data of their lists behind them
-/// and a presentation here and there; in all about so many bytes.
+/// A device, then device elements, each followed by the data of its list, and a
+/// presentation here and there; about `size` bytes in all.
 pub fn realistic(size: usize) -> Vec<Object> {
     let mut maker = Maker {
         random: Random::new(SEED),

@@ -25,10 +25,10 @@ use std::thread;
 const DUMP: &str = "target/compare-difference.hex";
 /// As much as the main thread has on Linux: a call may need hundreds of KB.
 const STACK: usize = 8 << 20;
-/// Longer pools are given to fewer calls, unless the run is a long one.
+/// With longer pools fewer calls are made, unless the run is a long one.
 const SHORT_POOL: usize = 2_000;
-/// The faults of longer pools, or of pools with more, are not counted: to find
-/// what led to them would take long.
+/// The faults of longer pools, or of pools with more faults, are not counted:
+/// finding their causes would take long.
 const LONGEST_COUNTED: usize = 16_000;
 const MOST_COUNTED: usize = 1_000;
 
@@ -37,7 +37,7 @@ pub struct Options {
     pub seed: u64,
     /// Seeded inputs.
     pub pools: u64,
-    /// How many of them are listed too.
+    /// How many of them are also given to the lister.
     pub listed: u64,
     /// Seeded lists of session calls.
     pub lists: u64,
@@ -45,7 +45,7 @@ pub struct Options {
 }
 
 /// Runs everything, prints the report and tells whether all agreed. The pools
-/// are compared beside all that needs none of them.
+/// are compared in parallel with everything that does not need them.
 pub fn run(options: Options) -> io::Result<bool> {
     thread::scope(|scope| {
         let beside = thread::Builder::new().stack_size(STACK);
@@ -57,7 +57,7 @@ pub fn run(options: Options) -> io::Result<bool> {
     })
 }
 
-/// What is compared but for pools.
+/// What is compared apart from pools.
 struct Others {
     texts: Report,
     sessions: sessions::Report,
@@ -123,7 +123,7 @@ impl Run {
         }
     }
 
-    /// Holds the second implementation itself to what is known beforehand.
+    /// Compares the second implementation itself with what is known beforehand.
     fn compare_with_known(&mut self, input: &Input, verdict: &Verdict) {
         let agrees = match &input.known {
             Known::Nothing => true,
@@ -176,7 +176,7 @@ impl Run {
         }
     }
 
-    /// Counts a call of both sides and notes where they part.
+    /// Counts a call of both sides and notes where they differ.
     fn take(&mut self, input: &Input, compared: Compared, call: impl FnOnce() -> String) {
         self.tallies.of(input.class).count_call(compared.number);
         if let Some(what) = compared.difference {
@@ -258,7 +258,7 @@ fn is_counted(input: &Input, verdict: &Verdict) -> bool {
         && verdict.faults.len() <= MOST_COUNTED
 }
 
-/// Shows the first line at which two outputs part.
+/// Shows the first line in which two outputs differ.
 fn line_difference(output: &str, expected: &str) -> String {
     let pairs = output
         .split_inclusive('\n')

@@ -64,7 +64,7 @@ impl Shape {
         }
     }
 
-    /// Where in a device element's record its entry count stands.
+    /// Where in a device element's record its entry count is.
     pub fn entry_count_at(&self) -> usize {
         11 + self.texts[0]
     }
@@ -123,8 +123,8 @@ impl Writer<'_> {
         self.free(length);
     }
 
-    /// Half the bytes are letters of marks: a reader that looks for marks
-    /// inside a record shall find some.
+    /// Half the bytes are letters of marks, so that a reader that looks for
+    /// marks inside a record finds some.
     fn free(&mut self, length: usize) {
         for _ in 0..length {
             let byte = if self.random.one_in(2) {
@@ -137,7 +137,7 @@ impl Writer<'_> {
     }
 }
 
-/// A pool with the records it was put together from.
+/// A pool with the records that it was assembled from.
 #[derive(Default)]
 pub struct Pool {
     pub bytes: Vec<u8>,

@@ -5,7 +5,7 @@ use crate::verdict::Verdict;
 
 /// What calls answer: 0 or a refusal.
 const NUMBERS: &[u32] = &[0, 1, 2, 3, 4, 5, 6, 7, 24, 28];
-/// Out of reach: the most records a pool holds are 5,461.
+/// Can't occur: a pool holds at most 5,461 records.
 const MANY_RECORDS: u32 = 6;
 
 #[derive(Clone, Copy, Default)]
@@ -92,7 +92,7 @@ impl Tallies {
         self.total().print("all");
     }
 
-    /// Answers that the inputs should have met and did not.
+    /// Answers that should have occurred and did not.
     pub fn unseen(&self) -> Vec<String> {
         let counts = NUMBERS.iter().copied().zip(self.total().numbers);
         counts

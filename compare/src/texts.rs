@@ -1,4 +1,4 @@
-//! The examiner of a text against the second implementation's.
+//! The library's examiner of texts against the second implementation's.
 
 use crate::library;
 use crate::random::Random;
@@ -34,7 +34,7 @@ impl Report {
     }
 }
 
-/// Compares fixed texts and as many seeded ones.
+/// Compares fixed texts and the given number of seeded ones.
 pub fn compare(seed: u64, seeded: u64) -> Report {
     let mut report = Report::default();
     short(&mut report);
@@ -57,7 +57,8 @@ fn short(report: &mut Report) {
     }
 }
 
-/// Every first byte that announces more, with edges behind it, cut and followed.
+/// Every first byte that announces more bytes, followed by edges: cut, complete
+/// and with a character after them.
 fn sequences(report: &mut Report) {
     for a in 0xC0..=255 {
         for (b, c) in EDGES.iter().flat_map(|b| EDGES.map(|c| (*b, c))) {
@@ -70,7 +71,7 @@ fn sequences(report: &mut Report) {
     }
 }
 
-/// Texts about the most characters, of each width, with and without the mark.
+/// Texts of 0 to 40 characters of each width, with and without the mark.
 fn counts(report: &mut Report) {
     for character in CHARACTERS {
         for count in 0..=40 {

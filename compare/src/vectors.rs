@@ -6,7 +6,7 @@ use std::path::{Path, PathBuf};
 
 const DIRECTORY: &str = concat!(env!("CARGO_MANIFEST_DIR"), "/../vectors");
 
-/// A pool with the output the lister owes for it.
+/// A pool with the output that the lister must give for it.
 pub struct Vector {
     pub name: String,
     pub pool: Vec<u8>,
@@ -23,7 +23,7 @@ pub fn load() -> io::Result<Vec<Vector>> {
     paths.iter().map(|path| load_one(path)).collect()
 }
 
-/// The bytes of a vector that is no pool.
+/// The bytes of a vector that is not a pool.
 pub fn load_bytes(name: &str) -> io::Result<Vec<u8>> {
     parse_hex(&fs::read_to_string(Path::new(DIRECTORY).join(name))?)
 }

@@ -6,15 +6,15 @@ use crate::shape::SHORTEST_RECORD;
 use second::{Fault, Record, MAX_POOL_BYTES};
 use std::collections::BTreeSet;
 
-/// Faults that are taken without a second check.
+/// How many faults can be taken without a second check.
 const USUAL_FAULTS: usize = 256;
-/// How many calls a pool is given to.
+/// How many calls are made with a pool.
 #[derive(Clone, Copy, PartialEq, Eq, PartialOrd, Ord)]
 pub enum Effort {
     Little,
     Usual,
     Full,
-    /// As full, with the longest lists and, of queries, every ID.
+    /// As `Full`, with the longest lists too, and with queries for every ID.
     Exhaustive,
 }
 
@@ -22,7 +22,7 @@ pub struct Verdict {
     /// No record means that the pool is refused.
     pub records: Vec<Record>,
     pub faults: Vec<Fault>,
-    /// Entries of a table for all records that the pool could have.
+    /// Entries that are enough for all records that the pool could have.
     pub most_entries: usize,
 }
 
@@ -40,7 +40,7 @@ impl Verdict {
         verdict
     }
 
-    /// Checks once, and gives the lists the lengths that are found.
+    /// Checks once, and sets the lists to the lengths that are found.
     fn check(&mut self, pool: &[u8]) -> usize {
         self.records.resize(self.most_entries, Record::default());
         let count = second::check(pool, &mut self.records, &mut self.faults).ok();
@@ -60,12 +60,13 @@ impl Verdict {
         !self.is_refused() && self.faults.is_empty()
     }
 
-    /// Words of a table for all records.
+    /// Words that a table needs for all records.
     pub fn needed(&self) -> usize {
         ENTRY_WORDS * self.records.len()
     }
 
-    /// Tables around what reading needs, also such that end inside an entry.
+    /// Lengths of tables around what reading needs, some of which end inside an
+    /// entry.
     pub fn tables(&self, effort: Effort) -> BTreeSet<usize> {
         if self.is_refused() {
             return [0, ENTRY_WORDS + 1, ENTRY_WORDS * self.most_entries].into();
@@ -79,9 +80,9 @@ impl Verdict {
         lengths
     }
 
-    /// Tables and fault buffers for checking. The buffers hold none, a few, all
-    /// but one, just all, one more or many more, and often have words that make
-    /// no whole fault. Some tables are too short.
+    /// Lengths of tables and fault buffers for checking. The buffers have room
+    /// for none, a few, all but one, exactly all, one more or many more faults,
+    /// often with words left over. Some tables are too short.
     pub fn lists(&self, effort: Effort) -> BTreeSet<(usize, usize)> {
         let words = |faults: usize| FAULT_WORDS * faults;
         if self.is_refused() {
@@ -108,7 +109,7 @@ impl Verdict {
             ]);
         }
         if effort == Effort::Exhaustive {
-            // More entries and faults than 16 bits count.
+            // More entries and faults than 16 bits can count.
             lists.insert((ENTRY_WORDS << 16, FAULT_WORDS << 16));
         }
         lists

@@ -27,8 +27,8 @@ const CHARACTERS: [char; 16] = [
     '\u{10FFFF}',
 ];
 
-/// On each side of each limit in RFC 3629's grammar. Also followed by a
-/// character none is well-formed.
+/// Sequences on each side of each limit in RFC 3629's grammar. None is
+/// well-formed, not even followed by a character.
 pub const MALFORMED: [&[u8]; 56] = [
     // Tails without a start.
     b"\x80",
@@ -84,7 +84,7 @@ pub const MALFORMED: [&[u8]; 56] = [
     b"\xF4\x8F\xBF\xC0",
     b"\xF4\x90\x80\x80",
     b"\xF4\xBF\xBF\xBF",
-    // Longer ones are none.
+    // There are no longer ones.
     b"\xF5\x80\x80\x80",
     b"\xF7\xBF\xBF\xBF",
     b"\xF8\x88\x80\x80\x80",
@@ -93,7 +93,7 @@ pub const MALFORMED: [&[u8]; 56] = [
     b"\xFF",
 ];
 
-/// A text of at most so many characters, and never more than are allowed.
+/// A text of at most `most` characters, and never more than are allowed.
 pub fn sound_text(random: &mut Random, most: usize) -> Vec<u8> {
     let most = most.min(MOST_CHARACTERS);
     let count = if random.one_in(8) {
@@ -104,8 +104,8 @@ pub fn sound_text(random: &mut Random, most: usize) -> Vec<u8> {
     characters(random, count)
 }
 
-/// So many characters without a mark in front: mostly of any width, at times
-/// all of one.
+/// `count` characters that do not begin with a byte order mark: mostly of mixed
+/// widths, sometimes all the same.
 fn characters(random: &mut Random, count: usize) -> Vec<u8> {
     let any = random.pick(&CHARACTERS);
     let alike = random.one_in(8);
@@ -118,8 +118,8 @@ fn characters(random: &mut Random, count: usize) -> Vec<u8> {
     text.into_bytes()
 }
 
-/// A text that is malformed, has the mark in front or is too long, for one of
-/// these reasons or for some.
+/// A text that is unsound for one or more reasons: it is malformed, begins with
+/// a byte order mark or is too long.
 pub fn unsound_text(random: &mut Random) -> Vec<u8> {
     match random.below(6) {
         0 => [MARK, &sound_text(random, 20)].concat(),
@@ -133,7 +133,7 @@ pub fn unsound_text(random: &mut Random) -> Vec<u8> {
     }
 }
 
-/// So many characters, in as many bytes as a text may have.
+/// `count` characters that fit into the bytes that a text may have.
 fn too_many_characters(random: &mut Random, count: usize) -> Vec<u8> {
     let width = TEXT_LIMIT / count;
     let fitting: Vec<char> = CHARACTERS
@@ -144,7 +144,7 @@ fn too_many_characters(random: &mut Random, count: usize) -> Vec<u8> {
     text.into_bytes()
 }
 
-/// A malformed sequence before, between or behind characters.
+/// A malformed sequence before, between or after characters.
 fn malformed(random: &mut Random) -> Vec<u8> {
     let before = sound_text(random, 14);
     let behind = sound_text(random, 14);

@@ -56,7 +56,7 @@ fn values(text: &str, name: &str) -> Vec<String> {
     pieces.filter_map(value).collect()
 }
 
-/// Whether a way of arrows leads from one to the other.
+/// Whether a path of arrows leads from one to the other.
 fn reaches(uses: &Uses, from: &str, to: &str) -> bool {
     let reached = |next: &String| next == to || reaches(uses, next, to);
     uses[from].iter().any(reached)

@@ -1,4 +1,4 @@
-//! Arguments out of an input. Behind its end all are 0.
+//! Takes arguments from an input. After its end all are 0.
 
 pub struct Bytes<'a> {
     left: &'a [u8],
@@ -33,12 +33,12 @@ impl<'a> Bytes<'a> {
         i32::from_le_bytes(self.array())
     }
 
-    /// The upper bits of numbers with a range, which stand in one byte.
+    /// The upper bits of numbers with a limited range, taken from one byte.
     pub fn wide(&mut self) -> Wide {
         Wide { bits: self.byte() }
     }
 
-    /// What a list has more than it needs, or less.
+    /// How much longer a list is than needed, or shorter.
     pub fn more(&mut self) -> isize {
         i8::from_le_bytes(self.array()).into()
     }
@@ -52,15 +52,15 @@ impl<'a> Bytes<'a> {
     }
 }
 
-/// For each of up to four numbers, what goes above the bits that it is stated
-/// in: nothing, or a bit that a narrower number would lose.
+/// For each of up to four numbers, what is set above the bits that the input
+/// has for it: nothing, or a bit that a narrower type would lose.
 #[derive(Clone, Copy)]
 pub struct Wide {
     bits: u8,
 }
 
 impl Wide {
-    /// The number at this place, which is stated in so many bits.
+    /// The number at this place, for which the input has `bits` bits.
     pub fn number(self, place: u8, stated: impl Into<u32>, bits: u32) -> u32 {
         let above = match self.bits >> (2 * place) & 3 {
             0 => 0,

@@ -1,19 +1,19 @@
-//! Many plain records at one end of a pool: a short input gets to long tables,
-//! chains and lists by them.
+//! Many plain records at one end of a pool, by which a short input makes long
+//! tables, chains and lists.
 
 use crate::bytes::Bytes;
 use compare::objects::Object;
 use second::Kind;
 use std::borrow::Cow;
 
-/// Sizes below this are few records, as most inputs should have: long pools
-/// take a fuzzer's time.
+/// Sizes below this mean few records, as most inputs should have: long pools
+/// cost a fuzzer time.
 const LONG: u8 = 192;
 /// Numbers of filling elements start here, so that those below are free.
 const FIRST_NUMBER: usize = 64;
 
 const IN_FRONT: u8 = 1;
-/// Device elements, each below the one before it; else process data.
+/// Device elements, each below the one before it; otherwise process data.
 const ELEMENTS: u8 = 1 << 1;
 /// The first element is below the last one.
 const RING: u8 = 1 << 2;
@@ -29,7 +29,7 @@ pub struct Filler {
 }
 
 impl Filler {
-    /// The greatest size is more records than a pool holds.
+    /// The greatest size means more records than a pool holds.
     pub fn take(bytes: &mut Bytes) -> Self {
         let size = bytes.byte();
         let count = match size.checked_sub(LONG) {
@@ -43,7 +43,7 @@ impl Filler {
         }
     }
 
-    /// The pool with the filling records before or behind it.
+    /// The pool with the filling records before or after it.
     pub fn around<'a>(&self, pool: &'a [u8]) -> Cow<'a, [u8]> {
         if self.count == 0 {
             return pool.into();

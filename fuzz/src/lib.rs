@@ -3,8 +3,9 @@
 //!
 //! The first byte is the group of calls, then follow their arguments at fixed
 //! places, and last the bytes that the calls are about. The first argument of
-//! a group with numbers that may be out of range is a byte of their upper bits. Lengths of lists are
-//! stated as what is more or less than needed, so that a 0 just fits.
+//! a group with numbers that may be out of range is a byte of their upper bits.
+//! Lengths of lists are given as the difference from what is needed, so that a
+//! 0 just fits.
 
 mod bytes;
 pub mod corpus;
@@ -61,7 +62,7 @@ impl Group {
     }
 }
 
-/// Makes the input's calls by both sides, and says where they part.
+/// Has both sides make the input's calls, and says where they differ.
 pub fn compare(input: &[u8]) -> Result<(), String> {
     let bytes = &mut Bytes::new(input.get(1..).unwrap_or(&[]));
     match Group::of(input) {

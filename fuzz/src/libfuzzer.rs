@@ -11,7 +11,7 @@ extern "C" {
 /// A difference ends the process, and the fuzzer keeps the input.
 #[no_mangle]
 extern "C" fn LLVMFuzzerTestOneInput(data: *const u8, size: usize) -> i32 {
-    // SAFETY: the fuzzer lends so many bytes; for none the pointer may be null.
+    // SAFETY: the fuzzer lends `size` bytes; for none the pointer may be null.
     let input = if size == 0 {
         &[]
     } else {
@@ -24,10 +24,10 @@ extern "C" fn LLVMFuzzerTestOneInput(data: *const u8, size: usize) -> i32 {
     0
 }
 
-/// One change in so many makes a new input.
+/// One change in this many makes a new input.
 const FRESH_ONE_IN: usize = 16;
 
-/// By structure, by bytes, or both.
+/// Changes an input by its structure, by bytes, or both.
 #[no_mangle]
 extern "C" fn LLVMFuzzerCustomMutator(
     data: *mut u8,
@@ -36,7 +36,7 @@ extern "C" fn LLVMFuzzerCustomMutator(
     seed: u32,
 ) -> usize {
     let random = &mut Random::new(seed.into());
-    // SAFETY: the fuzzer lends `max_size` bytes, of which the first are input.
+    // SAFETY: the fuzzer lends `max_size` bytes; the first ones are the input.
     let buffer = unsafe { slice::from_raw_parts_mut(data, max_size) };
     let mut input = buffer[..size].to_vec();
     let changed = if random.one_in(FRESH_ONE_IN) {
@@ -69,7 +69,7 @@ extern "C" fn LLVMFuzzerCustomCrossOver(
         return 0;
     }
     let random = &mut Random::new(seed.into());
-    // SAFETY: the fuzzer lends both inputs and so many bytes for the third.
+    // SAFETY: the fuzzer lends both inputs and `max_out` bytes for the third.
     let (input, other, out) = unsafe {
         (
             slice::from_raw_parts(data, size),

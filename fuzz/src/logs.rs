@@ -5,7 +5,7 @@ use compare::logs::{layout_by_both, Reading, Whole};
 
 /// Bytes of the arguments.
 pub const ARGUMENTS: usize = 7;
-/// Bytes of a record before its optional fields, and of those by their marks.
+/// Bytes of a record before its optional fields, and of these by their marks.
 const TIME_AND_DAYS: usize = 6;
 const WIDTHS: [usize; 9] = [4, 4, 4, 1, 2, 2, 1, 4, 2];
 
@@ -47,7 +47,7 @@ pub fn header_count(word: u16) -> usize {
     }
 }
 
-/// Where a record's count stands under a layout.
+/// Where a record's count is under a layout.
 pub fn count_at(layout: u32) -> usize {
     let marked = |bit: &usize| layout >> bit & 1 == 1;
     let widths = (0..WIDTHS.len()).filter(marked).map(|bit| WIDTHS[bit]);

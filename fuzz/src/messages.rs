@@ -4,7 +4,7 @@ use crate::bytes::Bytes;
 use compare::exchange::{read_by_both, write_by_both};
 use second::Message;
 
-/// Messages are lent at most so many bytes.
+/// The most bytes that are lent for a message to be written.
 const LONGEST: usize = 20;
 
 pub fn compare(bytes: &mut Bytes) -> Result<(), String> {
@@ -37,7 +37,7 @@ pub fn compare(bytes: &mut Bytes) -> Result<(), String> {
     read(bytes.rest())
 }
 
-/// What both write is read back by both.
+/// Has both sides write the message and read it back.
 fn write(room: usize, message: Message) -> Result<(), String> {
     match write_by_both(message, room) {
         Ok(Ok(written)) => read(&written),

@@ -1,5 +1,5 @@
-//! Changes to an input that leave its structure whole: bytes changed at random
-//! mostly make a pool that is refused at once.
+//! Changes to an input that keep its structure: bytes changed at random mostly
+//! make a pool that is refused at once.
 
 mod logs;
 mod numbers;
@@ -10,7 +10,7 @@ mod texts;
 use crate::{pool_at, Group};
 use compare::random::Random;
 
-/// Changes the input, and tells whether there was a structure to go by.
+/// Changes the input, and tells whether it had a structure to follow.
 pub fn mutate(random: &mut Random, input: &mut Vec<u8>) -> bool {
     match Group::of(input) {
         Group::Session if random.one_in(3) => sessions::mutate(random, input),
@@ -23,8 +23,8 @@ pub fn mutate(random: &mut Random, input: &mut Vec<u8>) -> bool {
     }
 }
 
-/// A new input of a group whose calls are mostly numbers. Few of these show
-/// anything new to a fuzzer, so that it would leave the group alone.
+/// A new input of a group whose calls mostly take numbers. Few of these show
+/// anything new to a fuzzer, so it would neglect the group.
 pub fn fresh(random: &mut Random) -> Vec<u8> {
     let mut input = vec![random.pick(&[Group::Message, Group::Displayed]) as u8];
     for _ in 0..12 {
@@ -33,7 +33,7 @@ pub fn fresh(random: &mut Random) -> Vec<u8> {
     input
 }
 
-/// Makes an input out of two of one group: a pool with records of both.
+/// Makes an input out of two of the same group: a pool with records of both.
 pub fn cross(random: &mut Random, input: &[u8], other: &[u8]) -> Option<Vec<u8>> {
     let (at, other_at) = (pool_at(input)?, pool_at(other)?);
     let (arguments, pool) = input.split_at(at);
@@ -51,7 +51,7 @@ fn mutate_pool(random: &mut Random, input: &mut Vec<u8>) -> bool {
     changed.is_some()
 }
 
-/// Writes a number into a list of bytes, if it reaches so far.
+/// Writes a number into a list of bytes, if the list is long enough.
 fn put(bytes: &mut [u8], at: usize, number: &[u8]) {
     if let Some(place) = bytes.get_mut(at..at + number.len()) {
         place.copy_from_slice(number);

@@ -12,14 +12,14 @@ use compare::vectors;
 use std::io;
 
 const SEED: u64 = 11783;
-/// Longer pools are no seeds: a fuzzer works best on short inputs.
+/// Longer pools are not used as seeds: a fuzzer works best on short inputs.
 const LONGEST_POOL: usize = 1_000;
 /// Pools that are shorter are sent in sessions.
 const SHORT_POOL: usize = 200;
 const ACCEPTED: u64 = 40;
 
-/// Long tables, chains, rings and lists, by filling records: their size, their
-/// ways and their first ID.
+/// Long tables, chains, rings and lists, made by filling records: their size,
+/// their ways and their first ID.
 const FILLINGS: [[u8; 4]; 10] = [
     [203, 0, 10, 0],
     [212, 0, 10, 0],
@@ -87,7 +87,7 @@ fn asked_wide(pool: &[u8]) -> [Vec<u8>; 3] {
     })
 }
 
-/// A pool that is offered, sent and activated, with refusals between.
+/// A pool that is offered, sent and activated, with refusals in between.
 fn sent(pool: &[u8]) -> Vec<u8> {
     let calls = [
         [OFFER, 0, 0, 0],
@@ -103,7 +103,7 @@ fn sent(pool: &[u8]) -> Vec<u8> {
     input(Group::Session, &arguments, pool)
 }
 
-/// A call on a value whose pool has arrived, but for a change.
+/// A call on a value whose pool has arrived, with a change.
 fn on_value(pool: &[u8], change: impl Fn(&mut [u8; VALUE_ARGUMENTS])) -> Vec<u8> {
     let mut value = [0; VALUE_ARGUMENTS];
     let length = (pool.len() as u32).to_le_bytes();
@@ -154,7 +154,7 @@ fn messages() -> [Vec<u8>; 5] {
     ]
 }
 
-/// By scales on both sides of each limit and by one that is none.
+/// Displayed values by scales on both sides of each limit and by a NaN.
 fn displayed() -> Vec<Vec<u8>> {
     let half = 0.5_f32.to_bits();
     let scales = [

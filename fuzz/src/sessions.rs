@@ -13,10 +13,10 @@ pub const CALL_BYTES: usize = 4;
 pub const LIST_START: usize = 3;
 /// Bytes of the arguments of a call on a value.
 pub const VALUE_ARGUMENTS: usize = 21;
-/// Areas are hardly longer, whatever a value says.
+/// Areas are not much longer than this, whatever a value says.
 const LONGEST_AREA: usize = MAX_POOL_BYTES + 200;
 
-/// Bytes of a list's arguments, which start here.
+/// How many of these bytes are a list's arguments.
 pub fn list_arguments(bytes: &[u8]) -> usize {
     let count = bytes.get(LIST_START - 1).map_or(0, |&count| count.into());
     LIST_START + CALL_BYTES * (count % (MOST_CALLS + 1))
@@ -75,7 +75,7 @@ pub fn compare_value(bytes: &mut Bytes) -> Result<(), String> {
     outcome.map_err(|what| format!("{what}\n{value:?}\n{call}"))
 }
 
-/// A call whose lengths are stated by the value it is made on.
+/// A call whose lengths depend on the value it is made on.
 struct Plan {
     kind: u8,
     word: u16,
@@ -120,7 +120,7 @@ impl Plan {
     }
 }
 
-/// So many bytes of the pool from a place on, behind its end zeros.
+/// `length` bytes of the pool from a place on, and zeros after its end.
 fn piece(pool: &[u8], from: usize, length: usize) -> Vec<u8> {
     let sent = pool.get(from..).unwrap_or(&[]);
     let mut piece = sent[..length.min(sent.len())].to_vec();

@@ -1,4 +1,4 @@
-//! A text, examined.
+//! A text that is examined.
 
 use crate::bytes::Bytes;
 use compare::lent::LentPool;

@@ -1,6 +1,6 @@
-//! The plain book of one client's calls. It is fed their arguments and the
-//! lengths of the areas, and holds the bytes themselves: a judge over
-//! sessions that knows neither their value nor their areas.
+//! The plain book of one client's calls. It gets their arguments and the
+//! lengths of the areas, and holds the bytes itself. Sessions are judged by it,
+//! although it knows neither their value nor the contents of their areas.
 
 use crate::faults::Fault;
 use crate::pool::{Record, MAX_POOL_BYTES};
@@ -13,7 +13,7 @@ pub enum Entry {
     Refused(u8),
     /// Reading the pool that arrived gave this number and place.
     Unread(u8, usize),
-    /// 24, with the first fault.
+    /// Refusal 24, with the first fault.
     Faulty(Fault),
 }
 
@@ -31,7 +31,7 @@ impl Book {
         Book::default()
     }
 
-    /// The announced size, none at stage none.
+    /// The announced size, or `None` if nothing is offered.
     pub fn offered(&self) -> Option<usize> {
         self.offer
     }
@@ -74,7 +74,7 @@ impl Book {
         }
     }
 
-    /// The table matters by its entries' number alone.
+    /// Of the table only the number of entries matters.
     pub fn activate(&mut self, staging_len: usize, kept_len: usize, entries: usize) -> Entry {
         match self.offer {
             Some(size) if self.arrived.len() < size => Entry::Refused(23),

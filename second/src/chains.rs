@@ -18,18 +18,18 @@ pub struct Chains {
 }
 
 impl Chains {
-    /// Forgets the chains known so far, for a pool of so many records.
+    /// Forgets the chains known so far, for a pool of `records` records.
     pub fn start(&mut self, records: usize) {
         self.known.clear();
         self.known.resize(records, Chain::Unknown);
     }
 
     /// Whether the chain from the device element at index `start` never ends.
-    /// `parent` gives the device element that is named as the parent of
-    /// another one, if one is.
+    /// `parent` gives the index of a device element's parent, if that is a
+    /// device element.
     pub fn never_ends(&mut self, start: usize, parent: impl Fn(usize) -> Option<usize>) -> bool {
         let outcome = self.follow(start, parent);
-        // Every chain on the path runs into what its end ran into.
+        // All chains on the path have the same outcome.
         for index in self.path.drain(..) {
             self.known[index] = outcome;
         }

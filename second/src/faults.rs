@@ -6,7 +6,7 @@
 pub struct Fault {
     pub record: u16,
     pub rule: u8,
-    /// A list holds less than 32,768 entries, so 16 bits do for every item.
+    /// A list has fewer than 32,768 entries, so 16 bits suffice for every item.
     pub item: u16,
 }
 
@@ -49,7 +49,7 @@ impl<'a> FaultList<'a> {
         }
     }
 
-    /// Cold, as most pools are sound: their way shall be the short one.
+    /// Cold, as most pools are sound: the path without a fault is to be fast.
     #[cold]
     pub fn report(&mut self, rule: u8, item: u16) {
         if let Some(free) = self.buffer.get_mut(self.count) {

@@ -1,5 +1,5 @@
-//! The fields of a record, taken from the pool's bytes from its start on.
-//! Reading has found the record whole, so every field is there.
+//! The fields of a record, taken from the pool's bytes at its start. Reading
+//! has found the record complete, so every field is there.
 
 use crate::pool::Record;
 use crate::texts::Text;
@@ -64,13 +64,13 @@ impl<'a> Element<'a> {
         }
     }
 
-    /// The type alone.
+    /// Only the type.
     #[inline]
     pub fn type_of(record: &[u8]) -> u8 {
         record[5]
     }
 
-    /// The parent ID alone.
+    /// Only the parent ID.
     #[inline]
     pub fn parent_of(record: &[u8]) -> u16 {
         let (_, rest) = Text::split(&record[6..]);

@@ -26,7 +26,7 @@ struct Allowed {
 }
 
 /// The error byte for a command, or the number of the refusal. The table is
-/// filled whenever the pool is read; 32 leaves it as it was.
+/// filled whenever the pool is read; refusal 32 leaves it as it was.
 pub fn judge(
     pool: &[u8],
     table: &mut [Record],
@@ -59,8 +59,8 @@ fn find_element<'a>(pool: &'a [u8], records: &[Record], number: u32) -> Option<E
         .find(|element| u32::from(element.number) == number)
 }
 
-/// Looks for the DDI among the records first: few have it, so that the list is
-/// searched only for these.
+/// Looks for the DDI among the records first: few have it, and only these are
+/// searched for in the element's list.
 fn find_data(pool: &[u8], records: &[Record], element: &Element, ddi: u16) -> Option<Allowed> {
     records
         .iter()
@@ -85,7 +85,7 @@ impl Allowed {
         }
     }
 
-    /// For a command with a value.
+    /// The error byte for a command with a value.
     fn judge(&self, command: u32, value: i32) -> u8 {
         let is_interval = matches!(command, TIME_INTERVAL | DISTANCE_INTERVAL);
         let trigger = match command {

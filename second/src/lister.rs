@@ -7,7 +7,7 @@ use std::fmt::Write;
 
 /// Entries of the lister's table.
 const LISTER_ENTRIES: usize = 2_048;
-/// Faults that the lister prints at most.
+/// The most faults that the lister prints.
 const LISTER_FAULTS: usize = 1_024;
 
 /// What the lister prints for `pool`.
@@ -83,8 +83,8 @@ mod tests {
         assert_eq!(list(&pool), format!("{records}{faults}"));
     }
 
-    /// The lines on faults for a pool of equal records, each but the first of
-    /// which is one fault behind the two of the whole pool.
+    /// The fault lines for a pool of equal records: two for the whole pool,
+    /// then one for each record but the first.
     fn fault_lines(records: usize) -> Vec<String> {
         let output = list(&DPD.repeat(records));
         let lines = output.lines().skip(1 + records);

@@ -58,8 +58,8 @@ pub struct LogRecord {
     pub fields: LogFields,
 }
 
-/// Why a log was not read, and where the record starts that is to blame; 0 for
-/// a layout.
+/// Why a log was not read, and where the record starts that is at fault; 0 if
+/// the layout is.
 #[derive(Clone, Copy, Debug, Default, PartialEq, Eq)]
 pub struct LogRefusal {
     pub number: u8,
@@ -174,14 +174,14 @@ impl Shape {
         self.layout & field != 0
     }
 
-    /// Bytes of a record with so many values.
+    /// Bytes of a record with `count` values.
     #[inline]
     fn length(self, count: usize) -> usize {
         self.head + count * ENTRY_BYTES
     }
 
     /// Judges the record that `bytes` start with and gives the number of its
-    /// values. A log spends its time here.
+    /// values. Reading a log spends most of its time here.
     #[inline(always)]
     fn judge(self, bytes: &[u8], logged: usize) -> Result<usize, u8> {
         let (head, rest) = bytes.split_at_checked(self.head).ok_or(CUT_RECORD)?;
@@ -347,7 +347,7 @@ impl Writer<'_> {
 
 const WHOLE_HEAD: &str = "the head has room for every marked field";
 
-/// By layout, the bytes of a head.
+/// For each layout, the bytes of a head.
 static HEADS: [u8; LAYOUTS] = heads();
 
 const fn heads() -> [u8; LAYOUTS] {

@@ -15,8 +15,9 @@ const MAX_COMMAND: u32 = 0xF;
 const IGNORED_HALF: u8 = 0xF0;
 const IGNORED: u8 = 0xFF;
 
-/// A message that was read, or is to be written. Numbers with a range are
-/// wider than any that is in it: those above are refused, and not cut.
+/// A message that was read, or is to be written. Numbers with a limited range
+/// have wider types than the range needs: those above it are refused, and not
+/// truncated.
 #[derive(Clone, Copy, Debug, PartialEq, Eq)]
 pub enum Message {
     Value {
@@ -99,7 +100,7 @@ pub(crate) fn carries_value(command: u32) -> bool {
     matches!(command, 2..=8 | 0xA)
 }
 
-/// Command and element are in range.
+/// Command and element must be in range.
 fn write(to: &mut [u8], command: u32, element: u32, ddi: u16, last: [u8; 4]) -> Result<(), u8> {
     let to: &mut [u8; MESSAGE_BYTES] = to.first_chunk_mut().ok_or(SHORT_BUFFER)?;
     let [first, second, ..] = (element << 4 | command).to_le_bytes();

@@ -22,7 +22,7 @@ impl Carriers {
         Carriers { first: zeros() }
     }
 
-    /// Enters the records of a pool, for which the answers then hold.
+    /// Enters the records of a pool; the answers then hold for this pool.
     pub fn names<'a>(&'a mut self, records: &'a [Record]) -> Names<'a> {
         // From the last to the first, so that the first carrier remains.
         for (index, record) in records.iter().enumerate().rev() {
@@ -35,7 +35,7 @@ impl Carriers {
     }
 }
 
-/// What the IDs of one pool name. Records go by their index in the table.
+/// What the IDs of one pool name. A record is given by its index in the table.
 #[derive(Clone, Copy)]
 pub struct Names<'a> {
     pub records: &'a [Record],

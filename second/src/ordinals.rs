@@ -1,7 +1,7 @@
 //! The ordinals of logged values, and whether they are below the number of log
 //! values in a header.
 
-/// An ordinal and its value.
+/// Bytes of an ordinal and its value.
 pub const ENTRY_BYTES: usize = 5;
 
 /// How many entries are looked at together.
@@ -10,7 +10,7 @@ const LANES: usize = 16;
 /// For every byte of a window, whether to look at it.
 type Mask = [[u8; LANES]; ENTRY_BYTES];
 
-/// Whether ordinals in a list are below.
+/// Whether all ordinals in a list are below `logged`.
 #[inline]
 pub fn ordinals_fit(ordinals: &[u8], logged: usize) -> bool {
     match largest_below(logged) {
@@ -19,8 +19,9 @@ pub fn ordinals_fit(ordinals: &[u8], logged: usize) -> bool {
     }
 }
 
-/// Whether the ordinals of the first `count` entries are below. Those entries
-/// are there; what comes after them does not matter, though it is looked at.
+/// Whether the ordinals of the first `count` entries are below `logged`. The
+/// bytes must hold those entries; what comes after them may be read, but does
+/// not matter.
 #[inline]
 pub fn entries_fit(mut bytes: &[u8], count: usize, logged: usize) -> bool {
     let Some(largest) = largest_below(logged) else {
@@ -41,15 +42,15 @@ pub fn entries_fit(mut bytes: &[u8], count: usize, logged: usize) -> bool {
     entries[..left].iter().all(|entry| entry[0] <= largest)
 }
 
-/// The largest ordinal that is below, if any is.
+/// The largest ordinal below `logged`, if there is one.
 #[inline]
 fn largest_below(logged: usize) -> Option<u8> {
     let largest = logged.checked_sub(1)?;
     Some(u8::try_from(largest).unwrap_or(u8::MAX))
 }
 
-/// Goes through all of them whatever it finds: the compiler then compares many
-/// at once.
+/// Does not stop at the first ordinal that is too large: this way the compiler
+/// compares many at once.
 #[inline]
 fn all_up_to(largest: u8, ordinals: &[u8]) -> bool {
     let each = ordinals.iter();
@@ -58,10 +59,10 @@ fn all_up_to(largest: u8, ordinals: &[u8]) -> bool {
 
 /// The ordinals in a window, in some order, and 0 where the mask has none.
 ///
-/// A window is as many rows as an entry has bytes, each with a byte a lane.
-/// Entries and rows have lengths without a common factor, so there is one
-/// ordinal in every lane, and once the other bytes are masked out the rows can
-/// be laid over each other.
+/// A window has as many rows as an entry has bytes, each with one byte per
+/// lane. The lengths of entries and rows have no common factor, so every lane
+/// has one ordinal, and once the other bytes are masked out the rows can be
+/// combined by `|`.
 #[inline]
 fn ordinals_of(window: &[u8; ENTRY_BYTES * LANES], mask: &Mask) -> [u8; LANES] {
     let (rows, _) = window.as_chunks::<LANES>();
@@ -74,9 +75,9 @@ fn ordinals_of(window: &[u8; ENTRY_BYTES * LANES], mask: &Mask) -> [u8; LANES] {
     ordinals
 }
 
-/// By the number of entries, the mask of their ordinals. A table, because steps
-/// that depend on this number would often be mispredicted, and because of a
-/// mask that the compiler knows it makes loads of single bytes.
+/// For each number of entries, the mask of their ordinals. It is a table
+/// because branches on this number would often be mispredicted, and because
+/// the compiler turns a constant mask into loads of single bytes.
 static MASKS: [Mask; LANES + 1] = masks();
 
 const fn masks() -> [Mask; LANES + 1] {

@@ -74,8 +74,8 @@ impl Refusal {
 /// Divides `pool` into records, enters them at the start of `table` and gives
 /// their count. A refusal leaves the whole table as it was.
 pub fn read_pool(pool: &[u8], table: &mut [Record]) -> Result<usize, Refusal> {
-    // Only a full reading may touch the table, so the records are counted
-    // first and entered in a second walk, which finds the same ones.
+    // The table may only be written if the whole pool can be read, so a first
+    // pass counts the records and a second one enters them.
     judge_length(pool)?;
     let mut count = 0;
     walk(pool, |_| count += 1)?;
@@ -88,8 +88,8 @@ pub fn read_pool(pool: &[u8], table: &mut [Record]) -> Result<usize, Refusal> {
     Ok(count)
 }
 
-/// As `read_pool`, but walks once: the records wait in `found`, where nothing
-/// else is kept, until the pool is read in full.
+/// As `read_pool`, but in one pass: the records are collected in `found`, which
+/// is only scratch memory, until the pool is read in full.
 pub(crate) fn read_pool_through<'a>(
     found: &mut Vec<Record>,
     pool: &[u8],
@@ -111,7 +111,7 @@ fn judge_length(pool: &[u8]) -> Result<(), Refusal> {
     }
 }
 
-/// The entries of the table for so many records.
+/// The entries of the table for `count` records.
 fn entries_for(count: usize, table: &mut [Record]) -> Result<&mut [Record], Refusal> {
     if count > MAX_RECORDS {
         return Err(Refusal::new(Refusal::MANY_RECORDS, 0));
@@ -122,7 +122,7 @@ fn entries_for(count: usize, table: &mut [Record]) -> Result<&mut [Record], Refu
 }
 
 /// Visits the records from left to right, up to the first bad one. The pool
-/// is within its limit.
+/// must not be longer than its limit.
 #[inline]
 fn walk(pool: &[u8], mut visit: impl FnMut(Record)) -> Result<(), Refusal> {
     let mut start = 0;
@@ -139,8 +139,8 @@ fn walk(pool: &[u8], mut visit: impl FnMut(Record)) -> Result<(), Refusal> {
     Ok(())
 }
 
-/// Kind and end of the record at `start`, or what is wrong with it. Inlined
-/// into each walk its result stays in registers, which halves the time.
+/// Kind and end of the record at `start`, or what is wrong with it. Inlining
+/// it keeps the result in registers, which halves the time.
 #[inline(always)]
 fn kind_and_end(pool: &[u8], start: usize) -> Result<(Kind, usize), Refusal> {
     let fields = Fields { pool, start };
@@ -161,10 +161,10 @@ fn kind_and_end(pool: &[u8], start: usize) -> Result<(Kind, usize), Refusal> {
     Ok((kind, end))
 }
 
-/// Finds the ends of a record's fields, as positions in the pool. They are
-/// what the fields call for and may lie behind the pool's end: a cut shows
-/// where the next length or count is fetched, at the latest at the record's
-/// end.
+/// Finds the ends of a record's fields, as positions in the pool. They follow
+/// from the lengths and counts and may lie past the pool's end: a cut record is
+/// noticed when the next length or count is fetched, at the latest at the
+/// record's end.
 #[derive(Clone, Copy)]
 struct Fields<'a> {
     pool: &'a [u8],
@@ -244,7 +244,7 @@ mod tests {
         }
     }
 
-    /// Tells an entry that was never written.
+    /// An entry that was never written.
     const UNTOUCHED: Record = Record {
         start: 0xA5A5,
         length: 0x5A5A,
@@ -257,7 +257,7 @@ mod tests {
         (read_pool(pool, &mut table), table)
     }
 
-    /// Asserts the refusal and that it left the table alone.
+    /// Asserts that the pool is refused and the table is left as it was.
     fn assert_refused(pool: &[u8], number: u8, place: usize) {
         let (result, table) = read::<6>(pool);
         assert_eq!(result, Err(Refusal { number, place }));

@@ -16,10 +16,11 @@ pub(crate) const SETTABLE: u8 = 1 << 1;
 const CONTROL_SOURCE: u8 = 1 << 2;
 const PROPERTY_BITS: u8 = 0b111;
 const TRIGGER_BITS: u8 = 0b1_1111;
-/// Scales are compared as bits: a NaN is no member of the range.
+/// Scales are compared by their bits: a NaN is outside the range.
 pub(crate) const SCALE_BITS: RangeInclusive<u32> = 0x322B_CC77..=0x4CBE_BC20;
 pub(crate) const MAX_DECIMALS: u8 = 7;
-/// In a label no byte is set to this one, save the last localization byte.
+/// No byte of a label may have this value, except the last one of the
+/// localization label.
 const UNUSED_BYTE: u8 = 255;
 
 /// Reads `pool` into `table` and checks it. Gives the count of all faults and
@@ -29,7 +30,7 @@ pub fn check(pool: &[u8], table: &mut [Record], faults: &mut [Fault]) -> Result<
     read_and_check(pool, table, faults).map(|(_, faults)| faults)
 }
 
-/// As `check`, but gives the records with the count of faults.
+/// As `check`, but gives the records along with the count of faults.
 pub(crate) fn read_and_check<'a>(
     pool: &[u8],
     table: &'a mut [Record],
@@ -53,13 +54,13 @@ struct Scratch {
     notes: Notes,
 }
 
-/// What a check notes down of the records and entries it has seen.
+/// What a check notes about the records and entries it has seen.
 struct Notes {
     element_numbers: NumberSet,
     /// DDIs of the list that is being checked.
     ddis: NumberSet,
     chains: Chains,
-    /// Faults of the list that are due after others of the same record.
+    /// Faults of the list that come after other faults of the same record.
     wrong_kinds: Vec<u16>,
     repeated_ddis: Vec<u16>,
 }
@@ -180,8 +181,8 @@ impl<'a> Checker<'a> {
         self.faults.report_all(Fault::REPEATED_DDI, repeated);
     }
 
-    /// Rules 6 and 7 for the parent and the entries. What the entries breach
-    /// of rule 12 is only noted: other faults come before.
+    /// Rules 6 and 7 for the parent and the entries. Entries that breach rule
+    /// 12 are only noted: other faults come before those.
     #[inline]
     fn list(&mut self, element: &Element) {
         self.notes.ddis.clear();

@@ -74,7 +74,7 @@ impl Session {
         offered.done()
     }
 
-    /// Writes `piece` behind what staging has received.
+    /// Writes `piece` into staging, after what has been received.
     pub fn transfer(self, piece: &[u8], staging: &mut [u8]) -> Step {
         if !self.can_arise() {
             return self.refused(IMPOSSIBLE);

@@ -13,7 +13,7 @@ pub struct Text<'a> {
 }
 
 impl<'a> Text<'a> {
-    /// The text whose length byte comes first, and what follows it.
+    /// The text at the start, whose length byte comes first, and what follows.
     #[inline]
     pub fn split(bytes: &'a [u8]) -> (Self, &'a [u8]) {
         let length = usize::from(bytes[0]);
@@ -35,8 +35,8 @@ impl<'a> Text<'a> {
     }
 
     /// May be false for a short ASCII text at the pool's end. Always looks at
-    /// 32 bytes: steps that depend on the length are mispredicted so often
-    /// that they take longer.
+    /// 32 bytes: branches on the length are mispredicted so often that they
+    /// take longer.
     #[inline]
     fn is_short_ascii(self) -> bool {
         let (Some(window), Some(masks)) = (
@@ -64,7 +64,7 @@ impl<'a> Text<'a> {
     }
 }
 
-/// Whether bytes on their own are a sound text.
+/// Whether these bytes as a whole are a sound text.
 pub fn text_is_sound(text: &[u8]) -> bool {
     let text = Text {
         from: text,

@@ -1,7 +1,7 @@
 /*
- * Stands before the C library in the lister (LD_PRELOAD) and has its reads or writes fail in the middle.
+ * Is loaded into the lister before the C library (LD_PRELOAD) and makes its reads or writes fail midway.
  *
- *   READ_FAILS=N    standard input gives N bytes, and then an error and never the end
+ *   READ_FAILS=N    standard input gives N bytes, and then an error instead of its end
  *   READ_BY=N       it gives at most N bytes at a time
  *   WRITE_FAILS=N   standard output takes N bytes, and then nothing more
  */
@@ -17,7 +17,7 @@ static size_t least(size_t one, size_t other)
     return one < other ? one : other;
 }
 
-/* How many of the bytes asked for pass: none where the limit is reached. Only the lister is meant, not the shell around it. */
+/* How many of the bytes asked for are let through: none once the limit is reached. This affects only the lister, not the shell. */
 static size_t passing(const char *limit, size_t done, size_t asked)
 {
     const char *bytes = getenv(limit);

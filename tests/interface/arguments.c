@@ -1,4 +1,4 @@
-/* Every function, with arguments and answers that all differ: a swapped, shifted or cut one shows. */
+/* Every function, with arguments and answers that all differ, so that a swapped, shifted or truncated one is noticed. */
 #include "calls.h"
 #include "check.h"
 #include "lachsbrille.h"
@@ -36,7 +36,7 @@ static void pools(void)
     EQUAL(value, 4);
     table_is_of_named(table);
 
-    /* The faults of Q without its process data, into a buffer of two and two thirds. */
+    /* The faults of Q without its process data, into a buffer for two and two thirds of a fault. */
     memset(table, LEFT, sizeof table);
     memset(faults, LEFT, sizeof faults);
     EQUAL(lachsbrille_check(q, ELEMENT_END, table, 5, faults, 8, &value), LACHSBRILLE_OK);
@@ -85,7 +85,7 @@ static void span_is(lachsbrille_span given, size_t from, size_t to)
     EQUAL(given.to, to);
 }
 
-/* Every field of a record of each kind; pools, starts and entries are told apart. */
+/* Every field of a record of each kind; another pool, start or entry gives other fields. */
 static void fields(void)
 {
     lachsbrille_device device = read_device(different, DIFFERENT, A_DEVICE);
@@ -109,7 +109,7 @@ static void fields(void)
     EQUAL(element.entries, 2);
     EQUAL(lachsbrille_read_entry(different, DIFFERENT, AN_ELEMENT, 0), 0x0B0A);
     EQUAL(lachsbrille_read_entry(different, DIFFERENT, AN_ELEMENT, 1), 0x0D0C);
-    /* Behind its list the next record begins, far behind it nothing is left. */
+    /* Past the end of its list the next record begins; far past it there are no bytes left. */
     EQUAL(lachsbrille_read_entry(different, DIFFERENT, AN_ELEMENT, 2), 'D' | 'P' << 8);
     EQUAL(lachsbrille_read_entry(different, DIFFERENT, AN_ELEMENT, 65535), 0);
 
@@ -139,7 +139,7 @@ static void fields_past_the_end(void)
     lachsbrille_property property = read_property(different, A_PROPERTY + 8, A_PROPERTY);
     lachsbrille_presentation presentation = read_presentation(LACHSBRILLE_NOTHING, 0, 65535);
 
-    /* Of the NAME two bytes are left. */
+    /* Two bytes of the NAME are left. */
     span_is(device.version, 12, 14);
     EQUAL(device.name, 0x1211);
     span_is(device.serial, 23, 23);
@@ -200,7 +200,7 @@ static void sessions(void)
     memset(kept, LEFT, sizeof kept);
     memset(table, LEFT, sizeof table);
 
-    /* An active session with every size another: the offer's size is neither area's length. */
+    /* An active session whose sizes all differ: the offer's size is neither area's length. */
     session.active = 1;
     session.kept = 60;
     step = offer(session, Q, staging, 90, kept, 80);
@@ -231,7 +231,7 @@ static void sessions(void)
     entry(table + 3, 59, 12, LACHSBRILLE_DPD, 3);
     entry(table + 4, LEFT_WORD, LEFT_WORD, LEFT_WORD, LEFT_WORD);
 
-    /* Refused with a fault, and with a place. What was kept stays. */
+    /* Refused with a fault, and with a place. The kept pool is unchanged. */
     session = offer(step.session, ELEMENT_END, staging, 90, kept, 80).session;
     session = transfer(session, q, ELEMENT_END, staging, 90).session;
     step = activate(session, staging, 90, kept, 80, table, 5);
@@ -254,7 +254,7 @@ static void sessions(void)
     session_is(step.session, 11, 12, 13, 14, 15);
     answer_is(step, LACHSBRILLE_IMPOSSIBLE_SESSION, 0, 0, 0, 0);
 
-    /* Offered, active and with a kept pool: each of the last three calls leaves something else. */
+    /* Offered, active and with a kept pool: each of the last three calls leaves a different session. */
     session.stage = LACHSBRILLE_STAGE_OFFERED;
     session.active = 1;
     session.received = 10;
@@ -300,7 +300,7 @@ static void exchange(void)
     SAME(to, acknowledge_bytes, 8);
     EQUAL(to[9], LEFT);
 
-    /* Each argument alone decides once. */
+    /* Each argument decides the answer once. */
     memset(table, LEFT, sizeof table);
     EQUAL(lachsbrille_judge(q, Q, table, 5, 4, 1, 141, 1000, &error), LACHSBRILLE_OK);
     EQUAL(error, 0);
@@ -319,7 +319,7 @@ static void exchange(void)
     EQUAL(lachsbrille_judge(q, Q, table, 5, 255, 2, 142, -1, &error), LACHSBRILLE_OK);
     EQUAL(error, LACHSBRILLE_ERROR_COMMAND);
 
-    /* Value and offset may change places: they are added. */
+    /* Value and offset may be swapped: they are added. */
     EQUAL(lachsbrille_displayed(100, -20, 0.5f, 7, &result), LACHSBRILLE_OK);
     EQUAL(result == 40.0, 1);
     EQUAL(lachsbrille_displayed(INT32_MAX, INT32_MAX, 3.0f, 0, &result), LACHSBRILLE_OK);
@@ -394,7 +394,7 @@ static void logs(void)
     EQUAL(log.start, LENGTH);
 }
 
-/* Each bit of a layout is its field: with that mark alone the field is what is written behind time and date. */
+/* Each bit of a layout stands for its field: with that bit alone, only this field is written after time and date. */
 static void layout_bits(void)
 {
     static const lachsbrille_log_fields fields = {

@@ -1,5 +1,5 @@
 /* The calls whose result goes through `out`, as functions that return it. Before the call it holds bytes that no call gives, so that
- * a field which is not written shows. */
+ * a field which is not written is noticed. */
 #ifndef CALLS_H
 #define CALLS_H
 

@@ -1,4 +1,4 @@
-/* Assertions of the C tests: each says what was given, and the program goes on to the next. */
+/* Assertions for the C tests: one that fails prints what it got, and the program goes on. */
 #ifndef CHECK_H
 #define CHECK_H
 

@@ -2,13 +2,13 @@
  * Stands between a C program and the library (ld --wrap): each slice, lent number and result is copied into memory of exactly its
  * size, lent from there and copied back. What must not be written is compared; what lies around is watched. LENT says how:
  *
- *   canaries   between known bytes, which are compared after the call (the usual)
- *   end        right before a page that nobody may touch: a byte read or written behind it ends the program
- *   start      right behind such a page: likewise for a byte before it
+ *   canaries   between known bytes, which are compared after the call (the default)
+ *   end        right before an inaccessible page: a byte read or written after it ends the program
+ *   start      right after an inaccessible page: likewise for a byte before it
  *   heap       in blocks of their own, for the address sanitizer
  *
- * The sanitizer sees what the C program does, and memcpy and memset of the library; the library's other accesses are not
- * instrumented. The pages see those too.
+ * The sanitizer sees what the C program does, and the library's calls of memcpy and memset; the library's other accesses are not
+ * instrumented. The pages catch those too.
  */
 #define _DEFAULT_SOURCE
 #include "lachsbrille.h"
@@ -44,7 +44,7 @@ static const char *manner(void)
     return wanted == NULL ? "canaries" : wanted;
 }
 
-/* Memory for a loan by canaries, all of it aligned for any item. */
+/* Memory for a loan between canaries, aligned for items of any type. */
 static unsigned char *canary_room(size_t number)
 {
     static union {
@@ -65,7 +65,7 @@ static void place(loan *it)
         it->lent = it->base + CANARY;
         memset(it->base, CANARY_BYTE, it->base_size);
     } else if (strcmp(manner(), "heap") == 0) {
-        /* Of nothing, the end of a block is lent: aligned, and not to be touched. */
+        /* For an empty slice the end of a block is lent: an aligned pointer to memory that must not be accessed. */
         it->base_size = it->size == 0 ? 16 : it->size;
         it->base = (unsigned char *)malloc(it->base_size);
         if (it->base == NULL) {
@@ -110,7 +110,7 @@ static void *lend(const void *own, void *to_own, size_t items, size_t item)
 {
     loan *it;
 
-    /* For an empty slice this pointer is lent as it is: nothing may be touched there. */
+    /* For an empty slice this pointer is lent as it is: no memory may be accessed through it. */
     if (items == 0 && own == LACHSBRILLE_NOTHING) {
         return LACHSBRILLE_NOTHING;
     }
@@ -142,7 +142,7 @@ static void take_back(void)
 #define READ(type, own, length) ((const type *)lend(own, NULL, length, sizeof *(own)))
 #define WRITE(type, own, length) ((type *)lend(own, own, length, sizeof *(own)))
 
-/* Makes the call with what was lent, and gives its answer when all has been taken back. */
+/* Makes the call with what was lent, takes everything back and returns the call's answer. */
 #define PASS(type, call)        \
     do {                        \
         type answer_ = call;    \

@@ -1,4 +1,4 @@
-// The header and the library from C++11: functions of every group, and structs that pass as C's.
+// The header and the library used from C++11: functions of every group, and structs that are passed as in C.
 #include "lachsbrille.h"
 
 #include <cstdint>
@@ -33,7 +33,7 @@ static_assert(is_plain<lachsbrille_log_fields>() && is_plain<lachsbrille_log_mar
 static_assert(is_plain<lachsbrille_log_record>() && is_plain<lachsbrille_log_written>(), "logs");
 static_assert(is_plain<lachsbrille_log_outcome>(), "logs");
 
-// P of the worked lines: a device and a device element.
+// Pool P of the worked examples: a device and a device element.
 const std::vector<std::uint8_t> pool = {
     'D', 'V', 'C', 0, 0, 0, 0, 0, 0, 0, 0, 0, 0, 0, 0, 0, 1, 1, 1, 1, 1, 1, 1, 0x65, 0x6E, 0, 0, 0, 0, 0xFF, 0,
     'D', 'E', 'T', 1, 0, 1, 0, 0, 0, 0, 0, 0, 0};
@@ -53,7 +53,7 @@ void pools()
     check(lachsbrille_text_is_sound(pool.data(), 3), "its mark is a text");
 }
 
-// A slice of any items that has none.
+// Empty slices of items of any type.
 void nothing()
 {
     std::size_t value = 9;

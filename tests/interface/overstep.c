@@ -1,4 +1,4 @@
-/* Two functions that overstep what they are lent, in the place of the library's: the tests have to notice. OVERSTEP is how. */
+/* Two functions in place of the library's that access more than they are lent, which the tests have to notice. OVERSTEP says how. */
 #include "lachsbrille.h"
 
 #include <stdlib.h>

@@ -1,4 +1,4 @@
-/* Pools of the tests: the worked ones P and Q, one whose texts and labels all differ, and a record of each kind whose bytes all
+/* Pools for the tests: the worked examples P and Q, one whose texts and labels all differ, and a record of each kind whose bytes all
  * differ. */
 #ifndef POOLS_H
 #define POOLS_H
@@ -17,7 +17,7 @@ static const uint8_t q[Q] = {
     'D', 'P', 'D', 3, 0, 0x8D, 0, 0x01, 0x09, 0, 0xFF, 0xFF
 };
 
-/* The kinds are in another order than their numbers. */
+/* The records are not in the order of their kinds' numbers. */
 enum { NAMED = 92 };
 
 static const uint8_t named[NAMED] = {
@@ -28,7 +28,7 @@ static const uint8_t named[NAMED] = {
     'D', 'E', 'T', 1, 0, 1, 4, 'm', 'a', 'i', 'n', 5, 0, 0, 0, 1, 0, 7, 1
 };
 
-/* A record of each kind behind two other bytes. No byte of a number stands twice. */
+/* A record of each kind, after two other bytes. No byte of a number occurs twice. */
 enum { A_DEVICE = 2, AN_ELEMENT = 43, SOME_DATA = 62, A_PROPERTY = 75, A_PRESENTATION = 89, DIFFERENT = 107 };
 
 static const uint8_t different[DIFFERENT] = {

@@ -23,7 +23,7 @@ static void refused(const char *file, int line, const char *call, uint32_t numbe
     }
 }
 
-/* Whether memory is as it was before it was lent. */
+/* Checks that memory is as it was before it was lent. */
 static void left(const void *lent, size_t size)
 {
     const uint8_t *bytes = (const uint8_t *)lent;
@@ -34,7 +34,7 @@ static void left(const void *lent, size_t size)
     }
 }
 
-/* Whether a part of a result is 0, as all of it but the number is after a refusal. */
+/* Checks that a part of a result is 0: after a refusal all of a result but the number is. */
 static void zero(const void *part, size_t size)
 {
     const uint8_t *bytes = (const uint8_t *)part;
@@ -45,12 +45,12 @@ static void zero(const void *part, size_t size)
     }
 }
 
-/* ---- Pools: every call with a table refuses a pool alike ---- */
+/* ---- Pools: every call with a table refuses a pool in the same way ---- */
 
 static lachsbrille_record table[ENTRIES];
 static uint16_t faults[2 * LACHSBRILLE_FAULT_WORDS];
 
-/* A pool that is not read: by every call with a table, which all leave their memory. */
+/* A pool that is not read, by any call with a table; all of them leave lent memory as it was. */
 static void not_read(const uint8_t *pool, size_t length, size_t entries, uint32_t name, size_t place)
 {
     lachsbrille_device_labels labels;
@@ -79,7 +79,7 @@ static void not_read(const uint8_t *pool, size_t length, size_t entries, uint32_
     left(faults, sizeof faults);
 }
 
-/* A pool that is sent whole and not activated; the stage that is left is given. */
+/* A pool that is sent in full and not activated; returns the stage of the session afterwards. */
 static unsigned not_activated(const uint8_t *pool, size_t length, size_t entries, uint32_t name, size_t place)
 {
     static uint8_t staging[AREA], kept[AREA];
@@ -132,7 +132,7 @@ static void pools(void)
     not_read(q, Q, 3, LACHSBRILLE_SHORT_TABLE, 4);
     EQUAL(not_activated(q, Q, 3, LACHSBRILLE_SHORT_TABLE, 4), LACHSBRILLE_STAGE_OFFERED);
 
-    /* As many records as bytes allow: fewer than refusal 6 is for. */
+    /* As many records as fit into the longest pool: too few for refusal 6. */
     for (record = 0; record < LACHSBRILLE_RECORDS_MOST; record++) {
         memcpy(pool + record * sizeof shortest_record, shortest_record, sizeof shortest_record);
     }
@@ -140,7 +140,7 @@ static void pools(void)
     EQUAL(value, LACHSBRILLE_RECORDS_MOST);
     EQUAL((LACHSBRILLE_RECORDS_MOST + 1) * sizeof shortest_record > LACHSBRILLE_POOL_MOST, 1);
 
-    /* With a fault: the table is filled. */
+    /* A pool with a fault: the table is filled. */
     memset(table, LEFT, sizeof table);
     REFUSED(lachsbrille_text(q, ELEMENT_END, table, ENTRIES, 0, &from, &to), LACHSBRILLE_FAULTY);
     EQUAL(from + to, 0);
@@ -161,7 +161,7 @@ static void pools(void)
     EQUAL(from + to, 0);
     EQUAL(table[3].start, 59);
 
-    /* In 16 bits it would be the device's ID. */
+    /* Truncated to 16 bits it would be the device's ID. */
     from = to = 9;
     REFUSED(lachsbrille_text(q, Q, table, ENTRIES, 65536, &from, &to), LACHSBRILLE_NO_SUCH_ID);
     EQUAL(from + to, 0);
@@ -175,7 +175,7 @@ static void pools(void)
     EQUAL(error, 0);
     left(table, sizeof table);
 
-    /* In 8 bits it would be command 3, which is refused as not settable. */
+    /* Truncated to 8 bits it would be command 3, which is refused as not settable. */
     EQUAL(lachsbrille_judge(q, Q, table, ENTRIES, 259, 1, 141, 0, &error), LACHSBRILLE_OK);
     EQUAL(error, LACHSBRILLE_ERROR_COMMAND);
 }
@@ -200,7 +200,7 @@ static void step_refused(const char *file, int line, const char *call, lachsbril
     equal(file, line, call, step.item, 0);
 }
 
-/* Every session call of a value that can't arise. */
+/* Every session call with a session value that can't arise. */
 static void impossible(uint16_t stage, uint16_t active, uint32_t announced, uint32_t received, uint32_t kept_size)
 {
     static uint8_t staging[AREA], kept[AREA];
@@ -341,7 +341,7 @@ enum {
     LENGTH = 6 + 9 + 1 + 2 * 5
 };
 
-/* Reading of a record, and of a log with it behind a sound one. */
+/* A record that is not read, neither by itself nor in a log after a sound record. */
 static void log_record_not_read(const uint8_t *sound, const uint8_t *bytes, size_t length, uint32_t name)
 {
     uint8_t ordinals[3], log[2 * LENGTH];
@@ -377,7 +377,7 @@ static void log_record_not_read(const uint8_t *sound, const uint8_t *bytes, size
     EQUAL(outcome.start, LENGTH);
 }
 
-/* Writing with these fields and ordinals. */
+/* A record with these fields and ordinals is not written. */
 static void log_record_not_written(lachsbrille_log_fields fields, const uint8_t *ordinals, uint32_t name)
 {
     static const int32_t values[2] = {-1, 2};
@@ -502,7 +502,7 @@ static void longest_log_record(void)
     EQUAL(written.length, LACHSBRILLE_LOG_RECORD_MOST);
 }
 
-/* Every number was given, and no other; 6 can't be, and above is seen why. */
+/* Every number was given, and no other; 6 can't be, as shown above. */
 static void all_were_given(void)
 {
     size_t at, number = 1;

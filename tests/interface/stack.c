@@ -1,8 +1,7 @@
 /*
- * Measures the stack of every call, over pools of every length and those that are worst for each list inside, against the figures of
- * the header: an argument for each of its rows, NAME=BYTES. Each call runs on a stack of its own that is filled
- * before, and what it has overwritten is counted; then once more on a stack of no more than the bound, beside a page that nobody may
- * touch.
+ * Measures the stack of every call, over pools of every length and those that are worst for each internal list, against the figures in
+ * the header: one argument for each of its rows, NAME=BYTES. Each call runs on a stack of its own that is filled with a known byte
+ * beforehand, and what it has overwritten is counted; then it runs once more on a stack of the bound's size next to an inaccessible page.
  */
 #define _DEFAULT_SOURCE
 #include "check.h"
@@ -13,8 +12,8 @@
 #include <stdlib.h>
 #include <sys/mman.h>
 
-/* No call takes more, whatever it is lent. Pools of up to SHORT_POOL bytes and lists of up to SHORT_LIST entries take shorter lists
- * inside, and what that comes to is printed. */
+/* No call takes more than BOUND, whatever it is lent. Pools of up to SHORT_POOL bytes with lists of up to SHORT_LIST entries need shorter
+ * internal lists, and the stack that they take is printed. */
 enum { BOUND = 64 << 10, SHORT_POOL = 12276, SHORT_LIST = 64 };
 enum { STACK = 1 << 20, PAGE = 1 << 16, UNUSED = 0xA5 };
 enum { DEVICE = 31, ELEMENT = 13, DATA = 12, LIST_COUNT = 11, LIST = 13, ENTRY = 2 };
@@ -33,7 +32,7 @@ static const int32_t values[LACHSBRILLE_LOG_VALUES_MOST];
 static int32_t read_values[LACHSBRILLE_LOG_VALUES_MOST];
 static double shown;
 
-/* Results and what else a caller would have on its own stack: it is not the calls'. */
+/* Results and whatever else a caller would have on its own stack: it does not count as the calls' stack. */
 static lachsbrille_device_labels device_labels;
 static lachsbrille_step step;
 static lachsbrille_device device;
@@ -113,7 +112,7 @@ static void others(void)
     lachsbrille_log_read(&log_outcome, record, sizeof record, LACHSBRILLE_LAYOUT_ALL, 1);
 }
 
-/* By the names of the header's rows, with the most that was measured. */
+/* The calls by the names of the header's rows, with its figures and the most that was measured. */
 static struct {
     const char *name;
     void (*run)(void);
@@ -140,7 +139,7 @@ static void give_up(const char *what)
     exit(EXIT_FAILURE);
 }
 
-/* Memory for a stack, behind a page that nobody may touch. */
+/* Memory for a stack, after an inaccessible page. */
 static unsigned char *new_stack(size_t size)
 {
     unsigned char *memory =
@@ -152,7 +151,7 @@ static unsigned char *new_stack(size_t size)
     return memory + PAGE;
 }
 
-/* The page counts as part of the stack, of which some machines' threads must have more than the bound. */
+/* The page is counted as part of the stack, as some machines demand more than the bound for a thread's stack. */
 static void run_on(unsigned char *stack, size_t size, void (*run)(void))
 {
     pthread_attr_t attributes;
@@ -165,7 +164,7 @@ static void run_on(unsigned char *stack, size_t size, void (*run)(void))
     (void)pthread_attr_destroy(&attributes);
 }
 
-/* How much of its stack a thread overwrites that makes these calls. */
+/* How much of its stack a thread that makes these calls overwrites. */
 static size_t overwritten(void (*run)(void))
 {
     static unsigned char *stack;
@@ -236,7 +235,7 @@ static void add_element(size_t id, size_t number, size_t parent)
     pool_length += ELEMENT;
 }
 
-/* A list for the element that was added last: it names so many IDs from one on, and again if that is wanted the first of them. */
+/* A list for the element that was added last: it names `count` IDs from `first` on, and then `first` once more if `again`. */
 static void add_list(size_t first, size_t count, bool again)
 {
     size_t entries = count + (again ? 1 : 0), start = pool_length - LIST, at;
@@ -250,7 +249,7 @@ static void add_list(size_t first, size_t count, bool again)
     }
 }
 
-/* Process data of different DDIs, with IDs from one on, as much of it as fits into so many bytes. */
+/* Process data with different DDIs and with IDs from `id` on, as long as the pool has no more than `bytes` bytes. */
 static void add_data(size_t id, size_t bytes)
 {
     for (; pool_length + DATA <= bytes; pool_length += DATA, id++) {
@@ -260,7 +259,7 @@ static void add_data(size_t id, size_t bytes)
     }
 }
 
-/* What is worst for each list inside, one by one and all together. IDs from 10 on are process data's. */
+/* What is worst for each internal list, in all combinations. IDs from 10 on are those of process data. */
 enum { LISTED = 1, REPEATED = 2, NUMBERED = 4, CIRCLING = 8, ALL_WORST = 16 };
 
 static void measure_worst(size_t bytes, size_t list)
@@ -290,7 +289,7 @@ static void measure_worst(size_t bytes, size_t list)
 
 static void measure_all(void)
 {
-    /* Q is sound, lacks its process data, and is cut. */
+    /* Q as it is, without its process data, and cut; and an empty pool. */
     static const struct { const char *name; size_t length; } parts[] = {
         {"Q", Q}, {"Q without its process data", ELEMENT_END}, {"Q cut", Q - 1}, {"no byte", 0}
     };

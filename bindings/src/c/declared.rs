@@ -1,6 +1,6 @@
-//! The C functions as the static library exports them. A slice crosses as its
-//! pointer and its length, a result of over 16 bytes through `out`, and a
-//! smaller struct by value, by the C ABI.
+//! The C functions as the static library exports them. By the C ABI a slice is
+//! passed as its pointer and its length, a result of over 16 bytes through
+//! `out`, and a smaller struct by value.
 
 use super::structs::{
     Device, DeviceLabels, Element, LogFields, LogMarks, LogOutcome, LogRecord, LogWritten,

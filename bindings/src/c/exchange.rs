@@ -45,8 +45,8 @@ pub fn message_write_acknowledge(
     }
 }
 
-/// Judges a command to the device over an accepted pool; `error` gets the
-/// error byte, 0 where the call is refused.
+/// Judges a command to the device by its accepted pool; `error` gets the error
+/// byte, or 0 if the call is refused.
 #[inline]
 pub fn judge(
     pool: &[u8],
@@ -57,8 +57,8 @@ pub fn judge(
     value: i32,
     error: &mut u8,
 ) -> u32 {
-    // SAFETY: pool, table and error are live and apart for the whole call, and
-    // the pointer of an empty slice is not null.
+    // SAFETY: pool, table and error are live and do not overlap for the whole
+    // call, and the pointer of an empty slice is not null.
     unsafe {
         lachsbrille_judge(
             pool.as_ptr(),
@@ -74,7 +74,7 @@ pub fn judge(
     }
 }
 
-/// Puts the displayed value into `result`, 0 where the call is refused.
+/// Puts the displayed value into `result`, or 0 if the call is refused.
 #[inline]
 pub fn displayed(value: i32, offset: i32, scale: f32, decimals: u32, result: &mut f64) -> u32 {
     // SAFETY: the result is live for the whole call.

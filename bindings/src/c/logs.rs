@@ -24,8 +24,8 @@ pub fn log_read_record(
     ordinals: &mut [u8],
     values: &mut [i32],
 ) {
-    // SAFETY: the areas and the result are live and apart for the whole call, and the
-    // pointer of an empty slice is not null.
+    // SAFETY: the areas and the result are live and do not overlap for the
+    // whole call, and the pointer of an empty slice is not null.
     unsafe {
         lachsbrille_log_read_record(
             out,
@@ -52,7 +52,7 @@ pub fn log_write_record(
     values: &[i32],
     count: usize,
 ) -> LogWritten {
-    // SAFETY: as for reading; the fields are read only.
+    // SAFETY: as for reading; the fields are only read.
     unsafe {
         lachsbrille_log_write_record(
             to.as_mut_ptr(),
@@ -72,7 +72,7 @@ pub fn log_write_record(
 /// Reads the records of a log to its end.
 #[inline]
 pub fn log_read(out: &mut LogOutcome, bytes: &[u8], layout: u32, logged: usize) {
-    // SAFETY: bytes and result are live and apart for the whole call, and the
-    // pointer of an empty slice is not null.
+    // SAFETY: bytes and result are live and do not overlap for the whole call,
+    // and the pointer of an empty slice is not null.
     unsafe { lachsbrille_log_read(out, bytes.as_ptr(), bytes.len(), layout, logged) }
 }

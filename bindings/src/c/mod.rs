@@ -2,8 +2,8 @@
 //!
 //! A slice stands for a pointer and a length, a reference for a lent number, a
 //! result or the fields of a log record. Numbers, structs and lent memory are
-//! exactly what C gets: 0 or a refusal's number. The functions beside this
-//! module give Rust's results instead.
+//! exactly what C gets: 0 or a refusal's number. The functions outside this
+//! module return a `Result` instead.
 
 mod declared;
 mod exchange;

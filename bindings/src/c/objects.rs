@@ -1,5 +1,5 @@
-//! The fields of a record, by a pool and the place where the record starts.
-//! Any pool and any start may be given: nothing is judged, and bytes past the
+//! The fields of a record, given a pool and the place where the record starts.
+//! Any pool and any start may be given: nothing is checked, and bytes past the
 //! pool's end are read as 0.
 
 use super::declared::{
@@ -11,8 +11,8 @@ use super::structs::{Device, Element, Presentation, ProcessData, Property};
 /// Reads the fields of a device.
 #[inline]
 pub fn read_device(out: &mut Device, pool: &[u8], start: u16) {
-    // SAFETY: pool and result are live and apart for the whole call, and the
-    // pointer of an empty slice is not null.
+    // SAFETY: pool and result are live and do not overlap for the whole call,
+    // and the pointer of an empty slice is not null.
     unsafe { lachsbrille_read_device(out, pool.as_ptr(), pool.len(), start) }
 }
 
@@ -24,7 +24,7 @@ pub fn read_element(out: &mut Element, pool: &[u8], start: u16) {
 }
 
 /// The ID that entry `n` of a device element's list names, counted from 0.
-/// Behind the list the bytes are read as though it went on.
+/// Past the end of the list, bytes are read as though it went on.
 #[inline]
 pub fn read_entry(pool: &[u8], start: u16, n: u16) -> u16 {
     // SAFETY: as for a device, with no result in memory.

@@ -10,8 +10,8 @@ use super::structs::{DeviceLabels, Record};
 /// refusal's place.
 #[inline]
 pub fn read(pool: &[u8], table: &mut [Record], value: &mut usize) -> u32 {
-    // SAFETY: the three areas are live and apart for the whole call, and the
-    // pointer of an empty slice is not null.
+    // SAFETY: the three areas are live and do not overlap for the whole call,
+    // and the pointer of an empty slice is not null.
     unsafe {
         lachsbrille_read(
             pool.as_ptr(),
@@ -23,8 +23,8 @@ pub fn read(pool: &[u8], table: &mut [Record], value: &mut usize) -> u32 {
     }
 }
 
-/// Checks a pool. The fault buffer counts words, three a fault. `value` gets
-/// the full count of faults, or the refusal's place.
+/// Checks a pool. The fault buffer consists of words, three per fault. `value`
+/// gets the full count of faults, or the refusal's place.
 #[inline]
 pub fn check(pool: &[u8], table: &mut [Record], faults: &mut [u16], value: &mut usize) -> u32 {
     // SAFETY: as for reading, with the faults as a fourth area.

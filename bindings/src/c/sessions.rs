@@ -35,7 +35,7 @@ pub fn session_offer(out: &mut Step, session: Session, size: usize, staging: &[u
 /// Takes a piece into staging.
 #[inline]
 pub fn session_transfer(out: &mut Step, session: Session, piece: &[u8], staging: &mut [u8]) {
-    // SAFETY: as for an offer; piece and staging are apart.
+    // SAFETY: as for an offer; piece and staging do not overlap.
     unsafe {
         lachsbrille_session_transfer(
             out,
@@ -57,7 +57,7 @@ pub fn session_activate(
     kept: &mut [u8],
     table: &mut [Record],
 ) {
-    // SAFETY: as for an offer; the three areas are apart.
+    // SAFETY: as for an offer; the three areas do not overlap.
     unsafe {
         lachsbrille_session_activate(
             out,
@@ -72,14 +72,14 @@ pub fn session_activate(
     }
 }
 
-/// Ends being active.
+/// Makes the session inactive.
 #[inline]
 pub fn session_deactivate(out: &mut Step, session: Session) {
     // SAFETY: the result is live for the whole call.
     unsafe { lachsbrille_session_deactivate(out, session) }
 }
 
-/// Forgets the pool that is kept, and an offer.
+/// Forgets the kept pool and any offer.
 #[inline]
 pub fn session_delete(out: &mut Step, session: Session) {
     // SAFETY: as for deactivating.

@@ -15,16 +15,16 @@ pub struct Record {
 }
 
 impl Record {
-    /// Words of a record.
+    /// How many words a record has.
     pub const WORDS: usize = 4;
 
-    /// Lends words as a table. Those behind the last whole record are not
-    /// lent.
+    /// Lends words as a table. Words after the last whole record are not lent.
     #[inline]
     pub fn table(words: &mut [u16]) -> &mut [Record] {
         let length = words.len() / Record::WORDS;
-        // SAFETY: a record is four words with no gap, is aligned as a word,
-        // and may hold any; so many records are no longer than the words.
+        // SAFETY: a record is four words without padding, is aligned like a
+        // word, and any words are a valid record; `length` whole records are
+        // no longer than the words.
         unsafe { slice::from_raw_parts_mut(words.as_mut_ptr().cast(), length) }
     }
 }
@@ -41,7 +41,7 @@ pub struct DeviceLabels {
     pub extended_length: u16,
 }
 
-/// A part of the pool, from one place up to, and without, the other.
+/// A part of the pool: from the first place up to the second, exclusive.
 #[repr(C)]
 #[derive(Clone, Copy, Debug, Default, PartialEq, Eq)]
 pub struct Span {
@@ -117,8 +117,8 @@ pub struct Presentation {
     pub unit: Span,
 }
 
-/// A client's session. Any numbers may stand here; a call refuses a value
-/// that no calls lead to.
+/// A client's session. The fields may hold any numbers; a call refuses a value
+/// that no sequence of calls leads to.
 #[repr(C)]
 #[derive(Clone, Copy, Debug, Default, PartialEq, Eq)]
 pub struct Session {
@@ -131,8 +131,8 @@ pub struct Session {
     pub active: u16,
 }
 
-/// What a session call leaves and answers. A place and a fault that the answer
-/// does not have are 0.
+/// The session after a call, and the call's answer. A place or fault that the
+/// answer does not have is 0.
 #[repr(C)]
 #[derive(Clone, Copy, Debug, Default, PartialEq, Eq)]
 #[non_exhaustive]
@@ -145,8 +145,8 @@ pub struct Step {
     pub item: u16,
 }
 
-/// The fields of a message. Those that it does not have are 0, as are all of
-/// a refusal.
+/// The fields of a message. Those that it does not have are 0, as are all
+/// fields after a refusal.
 #[repr(C)]
 #[derive(Clone, Copy, Debug, Default, PartialEq, Eq)]
 pub struct MessageFields {
@@ -175,13 +175,13 @@ pub struct LogFields {
     pub east: i32,
     /// Millimetres above the ellipsoid of WGS-84.
     pub up: i32,
-    /// Of the position; 15 means that it is missing.
+    /// Status of the position; 15 means that it is missing.
     pub status: u8,
     /// Tenths.
     pub pdop: u16,
     /// Tenths.
     pub hdop: u16,
-    /// Satellites that are used.
+    /// How many satellites are used.
     pub satellites: u8,
     /// UTC, milliseconds since midnight.
     pub gps_time: u32,
@@ -202,9 +202,9 @@ pub struct LogMarks {
 #[derive(Clone, Copy, Debug, Default, PartialEq, Eq)]
 pub struct LogRecord {
     pub number: u32,
-    /// Bytes of the record.
+    /// Length of the record in bytes.
     pub length: usize,
-    /// Ordinals and values of the record.
+    /// How many ordinals and values the record has.
     pub count: usize,
     pub fields: LogFields,
 }
@@ -217,8 +217,8 @@ pub struct LogWritten {
     pub length: usize,
 }
 
-/// How many records a log has, or a refusal's number with the start of its
-/// record.
+/// How many records a log has, or a refusal's number with the start of the
+/// record at fault.
 #[repr(C)]
 #[derive(Clone, Copy, Debug, Default, PartialEq, Eq)]
 pub struct LogOutcome {

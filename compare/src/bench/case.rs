@@ -1,4 +1,4 @@
-//! A pool with all that either side needs for it.
+//! A pool with everything that either side needs to work on it.
 
 use super::keep;
 use super::times::{time, Side};
@@ -27,7 +27,7 @@ pub enum Work {
 pub struct Case {
     pub pool: Vec<u8>,
     records: usize,
-    /// All faults of the pool.
+    /// The number of all faults of the pool.
     faults: usize,
     table_words: Vec<u16>,
     fault_words: Vec<u16>,
@@ -61,7 +61,7 @@ impl Case {
         self.faults
     }
 
-    /// Has both sides do the work once and compares all of it.
+    /// Has both sides do the work once and compares all results.
     pub fn compare(&self, work: Work) -> Result<(), String> {
         let pool = LentPool::new(&self.pool);
         let table = self.table_words.len();
@@ -81,7 +81,7 @@ impl Case {
         }
     }
 
-    /// Microseconds of a call, in a round of so many.
+    /// Microseconds per call, in a round of `calls` calls.
     pub fn time(&mut self, side: Side, work: Work, calls: usize) -> f64 {
         match side {
             Side::Library => time(calls, || self.by_library(work)),

@@ -10,8 +10,8 @@ use second::Message;
 use std::hint::black_box;
 
 const SEED: u64 = 11783;
-/// Items of a round, worked through so often that a round is long against the
-/// clock's step.
+/// Items of a round and how often they are worked through, which makes a round
+/// long compared with the clock's resolution.
 const ITEMS: usize = 1_000;
 const REPEATS: usize = 50;
 
@@ -130,8 +130,8 @@ impl Item {
     }
 }
 
-/// So short a function would be put into the loop; every other one is called, by
-/// either side.
+/// Such a short function would be inlined into the loop, whereas all others are
+/// called, on both sides.
 #[inline(never)]
 fn read_by_call(bytes: &[u8]) -> Result<Message, u8> {
     second::read_message(bytes)

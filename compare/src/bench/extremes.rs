@@ -7,15 +7,15 @@ use crate::extremes::extremes;
 use crate::realistic::realistic;
 use second::MAX_POOL_BYTES;
 
-/// Microseconds that one pool may take, by the library and in all rounds.
+/// Microseconds that the library may take for one pool in all rounds together.
 const BUDGET: f64 = 2e6;
 const FEWEST_ROUNDS: usize = 11;
 const MOST_ROUNDS: usize = 121;
-/// Microseconds of a round, so that it is long against the clock's step.
+/// Microseconds of a round: long compared with the clock's resolution.
 const ROUND: f64 = 500.0;
 
-/// Beside the times stands the library's against its own for a sound pool of
-/// the same size: what an implement can do to a terminal at worst.
+/// Next to the times is the ratio of the library's time to its own for a sound
+/// pool of the same size: the worst that an implement can do to a terminal.
 pub fn bench() -> Result<Group, String> {
     let mut rows = Vec::new();
     for extreme in extremes(MAX_POOL_BYTES) {

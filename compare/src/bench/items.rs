@@ -5,11 +5,12 @@ use super::times::{time, Rounds, Side};
 use std::hint::black_box;
 
 const ROUNDS: usize = 401;
-/// The title of what stands beside the times.
+/// The title of the column next to the times.
 pub const RATE: &str = "millions a second";
 
-/// Has both sides work through the items so often in a round, which is then
-/// long against the clock's step. Beside the times stands the library's rate.
+/// Has both sides work through the items `repeats` times in a round, which
+/// makes it long compared with the clock's resolution. Next to the times is
+/// the library's rate.
 pub fn bench<Item>(
     name: impl Into<String>,
     items: &[Item],
@@ -31,7 +32,7 @@ pub fn bench<Item>(
     }
 }
 
-/// Microseconds of one item.
+/// Microseconds per item.
 fn time_item<Item>(items: &[Item], repeats: usize, mut call: impl FnMut(&Item)) -> f64 {
     let all = || black_box(items).iter().for_each(&mut call);
     time(repeats, all) / items.len() as f64

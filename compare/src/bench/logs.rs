@@ -13,20 +13,20 @@ use crate::random::Random;
 use std::hint::black_box;
 
 const SEED: u64 = 11783;
-/// All optional fields, and north, east and status.
+/// The layouts with all optional fields, and with north, east and status.
 const ALL: u32 = 0x1FF;
 const THREE: u32 = 0x00B;
-/// Values of a record at most.
+/// The most values of a record.
 const MOST_VALUES: usize = 255;
 
-/// Records of a kind that are worked through together, and values of them in a
-/// round, which is then long against the clock's step.
+/// How many records of a kind are worked through together, and how many values
+/// in a round, which makes it long compared with the clock's resolution.
 const ITEMS: usize = 200;
 const ROUND_VALUES: usize = 100_000;
-/// What a record takes beside its values, as that of so many.
+/// The time that a record takes besides its values, as a number of values.
 const HEAD: usize = 20;
 
-/// Records of a day, one a second.
+/// Records of a day, one per second.
 const DAY: usize = 86_400;
 const LOG_ROUNDS: usize = 101;
 
@@ -47,15 +47,15 @@ const LOGS: [(&str, u32, usize, usize); 5] = [
     ("0x000, no value", 0, 0, 0),
 ];
 
-/// A record, with its fields as each side takes them, so that a call is timed
-/// and nothing beside it.
+/// A record, with its fields as each side takes them, so that only the call is
+/// timed.
 struct Item {
     draft: Draft,
     fields: Fields,
     bytes: Vec<u8>,
 }
 
-/// Memory that calls are lent.
+/// Memory that is lent to calls.
 struct Lent {
     record: Record,
     to: Vec<u8>,
@@ -168,7 +168,7 @@ impl Item {
 }
 
 impl Lent {
-    /// Enough for every record.
+    /// Memory that is enough for every record.
     fn new() -> Self {
         Lent {
             record: Record::default(),
@@ -179,7 +179,7 @@ impl Lent {
     }
 }
 
-/// Logs read. Beside the times stands the library's rate.
+/// Logs read. Next to the times is the library's rate.
 pub fn bench_logs() -> Result<Group, String> {
     let random = &mut Random::new(SEED);
     let mut rows = Vec::new();

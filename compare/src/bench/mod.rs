@@ -27,8 +27,8 @@ struct Report {
     growths: Vec<Growth>,
 }
 
-/// Prints the table, draws it into this file, and tells whether both sides did
-/// all work alike: what they do differently is not timed.
+/// Prints the table, draws it into this file, and tells whether both sides gave
+/// the same results: work on which they differ is not timed.
 pub fn bench(plot: Option<&Path>) -> Result<bool, String> {
     let start = Instant::now();
     let Report { groups, growths } = match measure() {
@@ -48,7 +48,7 @@ pub fn bench(plot: Option<&Path>) -> Result<bool, String> {
     Ok(true)
 }
 
-/// Prints each group of the table when it is measured.
+/// Prints each group of the table as soon as it is measured.
 fn measure() -> Result<Report, String> {
     let mut groups = Vec::new();
     let mut add = |group: Group| {
@@ -75,7 +75,7 @@ fn measure() -> Result<Report, String> {
     })
 }
 
-/// Sees to it that an answer is worked out, though nobody looks at it.
+/// Makes the compiler compute an answer although it is not used.
 pub fn keep<Answer>(answer: Answer) {
     let _ = black_box(answer);
 }

@@ -10,10 +10,10 @@ use crate::realistic::realistic;
 use second::{Kind, MAX_POOL_BYTES};
 
 const SIZE: usize = 8_000;
-/// Data of 12 bytes each, with an entry of 2, beside 44 bytes.
+/// How many data fit, of 12 bytes each and an entry of 2, besides 44 bytes.
 const LISTED: u16 = ((MAX_POOL_BYTES - 44) / 14) as u16;
 const ROUNDS: usize = 201;
-/// Microseconds of a round, so that it is long against the clock's step.
+/// Microseconds of a round: long compared with the clock's resolution.
 const ROUND: f64 = 250.0;
 
 /// Texts and labels.
@@ -48,7 +48,7 @@ pub fn bench_judging() -> Result<Group, String> {
     )
 }
 
-/// The same by a pool whose one list names all data.
+/// Commands judged by a pool whose only list names all data.
 pub fn bench_one_list() -> Result<Group, String> {
     let judged = [
         ("command 1", judge(1, 0, 0)),
@@ -69,7 +69,7 @@ fn judge(command: u32, element: u32, ddi: u16) -> Work {
     })
 }
 
-/// A sound pool whose only list is as long as can be.
+/// A sound pool whose only list is as long as possible.
 fn one_list() -> Vec<Object> {
     let mut element = Object::root_element(1);
     element.entries = (0..LISTED).map(|ddi| ddi + 2).collect();

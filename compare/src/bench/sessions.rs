@@ -1,4 +1,4 @@
-//! Transfers and activation of a sound pool of the most bytes.
+//! Transfers and activation of a sound pool of the greatest length.
 
 use super::case::Case;
 use super::keep;
@@ -10,24 +10,24 @@ use lachsbrille::c::{session_activate, session_transfer, Record as TableEntry, S
 use second::{Record, Session, Stage};
 use std::hint::black_box;
 
-/// What a frame of a transport message carries.
+/// Bytes that a frame of a transport message carries.
 const FRAME: usize = 7;
 const ROUNDS: usize = 401;
-/// Microseconds of a round, so that it is long against the clock's step.
+/// Microseconds of a round: long compared with the clock's resolution.
 const ROUND: f64 = 500.0;
 
 #[derive(Clone, Copy)]
 enum Work {
-    /// All of the pool, in pieces of this length.
+    /// Transfers the whole pool in pieces of this length.
     Transfer(usize),
     Activate,
 }
 
-/// Each side's areas, and the pool that is sent. What a call is given is made
-/// beforehand, so that the call is timed and nothing beside it.
+/// Each side's areas, and the pool that is sent. The arguments of a call are
+/// made beforehand, so that only the call is timed.
 struct Bench {
     pool: Vec<u8>,
-    /// After the offer, and when all has arrived.
+    /// The session after the offer, and when the whole pool has arrived.
     offered: Value,
     arrived: Value,
     staging: Vec<u8>,
@@ -144,7 +144,7 @@ impl Bench {
     }
 }
 
-/// The session after an offer of this size and so many bytes.
+/// The session after an offer of this size, with `received` bytes arrived.
 fn session(announced: usize, received: usize) -> Session {
     Session {
         stage: Stage::Offered,

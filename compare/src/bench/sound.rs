@@ -1,4 +1,4 @@
-//! Sound pools of several sizes, and how the time a byte grows with them.
+//! Sound pools of several sizes, and how the time per byte grows with them.
 
 use super::case::{Case, Work};
 use super::table::{grouped, print_line, print_titles, Group, Row, Unit};
@@ -6,11 +6,11 @@ use super::times::{Pair, Rounds, Times};
 use crate::realistic::realistic;
 
 const SIZES: [usize; 4] = [1_000, 8_000, 32_000, 65_000];
-/// Bytes worked through in a round, so that a round is long against the
-/// clock's step.
+/// Bytes worked through in a round, which makes it long compared with the
+/// clock's resolution.
 const ROUND_BYTES: usize = 500_000;
 
-/// One kind of work over pools of rising sizes.
+/// One kind of work on pools of increasing sizes.
 pub struct Growth {
     pub name: &'static str,
     pub sizes: Vec<Size>,
@@ -23,7 +23,7 @@ pub struct Size {
 }
 
 impl Growth {
-    /// Times this work, in so many rounds.
+    /// Times this work, in the given number of rounds.
     pub fn of(name: &'static str, work: Work, rounds: usize) -> Result<Self, String> {
         let mut timed: Vec<(Case, Rounds)> = SIZES
             .map(|size| (Case::new(&realistic(size)), Rounds::default()))
@@ -31,7 +31,8 @@ impl Growth {
         for (case, _) in &timed {
             case.compare(work)?;
         }
-        // All sizes and both sides in each round, so that a busy machine slows all.
+        // Each round has all sizes and both sides, so that a busy machine slows
+        // down all of them.
         for _ in 0..rounds {
             for (case, rounds) in &mut timed {
                 let calls = ROUND_BYTES / case.pool.len();
@@ -79,12 +80,12 @@ impl Growth {
 }
 
 impl Size {
-    /// The library's times in nanoseconds a byte.
+    /// The library's times in nanoseconds per byte.
     pub fn library(&self) -> Times {
         self.a_byte(self.pair.library)
     }
 
-    /// The second implementation's times in nanoseconds a byte.
+    /// The second implementation's times in nanoseconds per byte.
     pub fn second(&self) -> Times {
         self.a_byte(self.pair.second)
     }
@@ -94,7 +95,7 @@ impl Size {
     }
 }
 
-/// Prints the time a byte at each size. The sizes are the same in all.
+/// Prints the time per byte at each size. All have the same sizes.
 pub fn print_growth(growths: &[Growth]) {
     println!();
     let bytes = |size: &Size| format!("{} bytes", grouped(size.bytes));

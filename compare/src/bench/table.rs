@@ -1,11 +1,11 @@
-//! The one table of a run.
+//! The table that a run prints.
 
 use super::times::{Pair, Times};
 
 const NAME: usize = 46;
 const COLUMN: usize = 9;
 
-/// A line: work that both sides did.
+/// A line of the table: work that both sides did.
 pub struct Row {
     pub name: String,
     pub pair: Pair,
@@ -16,7 +16,7 @@ pub struct Row {
 /// Lines of one kind.
 pub struct Group {
     pub name: &'static str,
-    /// What the times are of.
+    /// What is timed.
     pub of: String,
     pub unit: Unit,
     /// The title of the fourth pair of columns; may be empty.
@@ -75,7 +75,7 @@ impl Group {
     }
 }
 
-/// Prints what stands above the groups.
+/// Prints what is above the groups.
 pub fn print_head() {
     println!("times of both sides; library/second below 1.0: the library is faster\n");
     let titles = ["library", "second", "library/second"];
@@ -101,7 +101,7 @@ pub fn print_line(name: &str, figures: impl IntoIterator<Item = Times>) {
     println!();
 }
 
-/// Prints which lines have the library slower, the slowest first.
+/// Prints the lines in which the library is slower, the slowest first.
 pub fn print_slower(groups: &[Group]) {
     let mut rows: Vec<(&Group, &Row)> = Vec::new();
     for group in groups {
@@ -121,7 +121,7 @@ pub fn print_slower(groups: &[Group]) {
     }
 }
 
-/// A number with a comma before each three digits.
+/// A number with its digits in groups of three, separated by commas.
 pub fn grouped(number: usize) -> String {
     if number < 1_000 {
         number.to_string()

@@ -7,10 +7,11 @@ use crate::library;
 use std::hint::black_box;
 
 const ROUNDS: usize = 401;
-/// Bytes examined in a round, so that a round is long against the clock's step.
+/// Bytes examined in a round, which makes it long compared with the clock's
+/// resolution.
 const ROUND_BYTES: usize = 500_000;
 
-/// Kinds of texts: a name, a character and how many of it.
+/// Kinds of texts: a name, a character and how often it is repeated.
 const TEXTS: [(&str, &str, usize); 5] = [
     ("12 letters", "a", 12),
     ("32 letters", "a", 32),

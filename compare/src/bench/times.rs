@@ -1,7 +1,8 @@
-//! The clock, and what rounds of it give.
+//! The clock, and the times of several rounds.
 //!
-//! A round is long against the clock's step, and short against the stretch for
-//! which a busy machine lets one process run: then many are not disturbed.
+//! A round is long compared with the clock's resolution, and short compared
+//! with the time for which a busy machine lets one process run, so that many
+//! rounds are not disturbed.
 
 use std::time::Instant;
 
@@ -12,14 +13,16 @@ pub enum Side {
     Second,
 }
 
-/// Of some rounds: times of one call in microseconds, rates or ratios.
+/// The best and the median of several rounds: times of one call in
+/// microseconds, rates or ratios.
 #[derive(Clone, Copy)]
 pub struct Times {
     pub best: f64,
     pub median: f64,
 }
 
-/// Times of both sides, and the library's over the second implementation's.
+/// Times of both sides, and the ratio of the library's to the second
+/// implementation's.
 #[derive(Clone, Copy)]
 pub struct Pair {
     pub library: Times,
@@ -45,7 +48,7 @@ impl Times {
     }
 
     /// The ratio of the best times, and the median of the ratios of each
-    /// round, in which a busy machine slows both.
+    /// round, in which a busy machine slows both sides.
     fn ratio(over: &[f64], under: &[f64]) -> Self {
         let each: Vec<f64> = over.iter().zip(under).map(|(a, b)| a / b).collect();
         Times {
@@ -54,8 +57,8 @@ impl Times {
         }
     }
 
-    /// How much is done in a microsecond, where these are the times for so
-    /// much: millions a second.
+    /// How much is done per microsecond, that is, millions per second, where
+    /// these are the times for `amount`.
     pub fn rate(self, amount: f64) -> Self {
         Times {
             best: amount / self.best,
@@ -88,8 +91,8 @@ impl Rounds {
         }
     }
 
-    /// So many rounds of calls that take the library about so many
-    /// microseconds, which is long against the clock's step.
+    /// Takes `count` rounds of calls that take the library about `length`
+    /// microseconds, which is long compared with the clock's resolution.
     pub fn take(count: usize, length: f64, mut timed: impl FnMut(Side, usize) -> f64) -> Self {
         let calls = calls_in(length, || timed(Side::Library, 1));
         let mut rounds = Rounds::default();
@@ -107,20 +110,20 @@ impl Rounds {
         }
     }
 
-    /// The library's times against these, which were taken round by round too.
+    /// The ratio of the library's times to these, taken in the same rounds.
     pub fn library_against(&self, other: &[f64]) -> Times {
         Times::ratio(&self.library, other)
     }
 }
 
-/// How many calls make a round of this length, by the best of some.
+/// How many calls make a round of this length, judging by the fastest of some.
 pub fn calls_in(length: f64, mut once: impl FnMut() -> f64) -> usize {
     const TRIED: usize = 5;
     let best = (0..TRIED).map(|_| once()).fold(length, f64::min);
     (length / best).ceil() as usize
 }
 
-/// Microseconds of one call in a round of so many.
+/// Microseconds of one call in a round of `calls` calls.
 pub fn time(calls: usize, mut call: impl FnMut()) -> f64 {
     let start = Instant::now();
     for _ in 0..calls {

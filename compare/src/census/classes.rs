@@ -1,4 +1,4 @@
-//! The classes of faults that a run has to meet.
+//! The classes of faults that have to occur in a run.
 
 use super::sighting::{Chain, Sighting, MANY_STEPS};
 use super::Census;
@@ -196,8 +196,8 @@ impl Census {
         });
     }
 
-    /// Faults whose place in the list of a walk that writes them as it meets
-    /// them would be a wrong one.
+    /// Faults that a checker would list in the wrong order if it wrote each one
+    /// as soon as it finds it.
     fn add_orders(&mut self) {
         for (rule, lower) in [(7, 6), (12, 6), (12, 7)] {
             let name = format!("at an item before one of rule {lower}");

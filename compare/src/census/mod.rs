@@ -1,5 +1,5 @@
-//! Counts the faults of a run by rule and item, and by what led to them. A
-//! rule that the pools never breach is not compared.
+//! Counts the faults of a run by rule and item, and by their causes. A rule
+//! that the pools never breach is not compared.
 
 mod classes;
 mod sighting;
@@ -19,7 +19,7 @@ struct FaultClass {
 
 #[derive(Default)]
 pub struct Census {
-    /// The rules count from 1.
+    /// The rules are numbered from 1.
     by_rule: [Vec<FaultClass>; 13],
     /// Device elements whose chain is long and ends.
     long_chains: u64,
@@ -58,7 +58,7 @@ impl Census {
         self.long_chains += scene.long_chains();
     }
 
-    /// Prints the counts, some lines a rule.
+    /// Prints the counts, several lines per rule.
     pub fn print(&self) {
         println!("faults by rule and item, and by what led to them");
         for (rule, classes) in self.by_rule.iter().enumerate().skip(1) {

@@ -4,7 +4,7 @@ use crate::objects::{named, Object};
 use second::{Fault, Kind};
 use std::str;
 
-/// From so many steps on a chain or ring is a long one.
+/// A chain or ring of at least this many steps is a long one.
 pub const MANY_STEPS: usize = 100;
 
 /// A pool with its faults.
@@ -19,7 +19,7 @@ pub struct Scene<'a> {
 pub struct Sighting<'a> {
     pub objects: &'a [Object],
     pub fault: Fault,
-    /// Index of the record, which is 0 too where the fault is the pool's.
+    /// Index of the record; also 0 if the fault is the whole pool's.
     index: usize,
     /// The faults before this one.
     before: &'a [Fault],
@@ -29,7 +29,7 @@ pub struct Sighting<'a> {
     pub places: (usize, usize),
 }
 
-/// A chain of parents: the steps before it ends or meets a ring, and the
+/// A chain of parents: the steps before it ends or enters a ring, and the
 /// ring's length.
 #[derive(Clone, Copy, Default)]
 pub struct Chain {

@@ -9,7 +9,8 @@ use crate::random::Random;
 use std::ops::RangeInclusive;
 
 const MOST_DECIMALS: u32 = 7;
-/// The offset's and the value's ends, their neighbours and some between.
+/// Offsets and values: the ends of their range, their neighbours and some
+/// between.
 const NUMBERS: [i32; 15] = [
     i32::MIN,
     i32::MIN + 1,
@@ -27,8 +28,8 @@ const NUMBERS: [i32; 15] = [
     i32::MAX - 1,
     i32::MAX,
 ];
-/// Where a kind of scale begins or ends, with neighbours; NaNs of several
-/// patterns among them.
+/// Scales where one kind begins or ends, with neighbours; among them NaNs of
+/// several patterns.
 const SCALES: [u32; 42] = [
     0,
     1,
@@ -73,7 +74,7 @@ const SCALES: [u32; 42] = [
     0xFFC0_0000,
     0xFFFF_FFFF,
 ];
-/// Around the greatest, and such as fit without their upper bits.
+/// Decimals around the greatest, and some that fit without their upper bits.
 const DECIMALS: [u32; 10] = [0, 1, 6, 7, 8, 9, 255, 256, 0x1_0001, 1 << 31];
 
 const ROWS: [&str; 12] = [
@@ -92,7 +93,8 @@ const ROWS: [&str; 12] = [
 ];
 /// Scales of these rows are in range.
 const IN_RANGE: RangeInclusive<usize> = 3..=5;
-/// Its mantissa is a multiple of 32, so that every product is exact.
+/// The greatest scale's mantissa is a multiple of 32, so every product is
+/// exact.
 const GREATEST_ROW: usize = 5;
 const COLUMNS: &[&str] = &[
     "0 sum 0",
@@ -106,7 +108,7 @@ const COLUMNS: &[&str] = &[
     "50 both",
 ];
 
-/// Values at the ends of all ranges, and so many seeded ones.
+/// Values at the ends of all ranges, and `seeded` seeded ones.
 pub fn compare(seed: u64, seeded: u64) -> Part {
     let grid = Grid::new(
         "displayed, by scale",
@@ -149,13 +151,13 @@ pub fn compare(seed: u64, seeded: u64) -> Part {
 struct Shown {
     number: u32,
     bits: u64,
-    /// Whether the memory beside the value was left alone.
+    /// Whether the memory around the value is unchanged.
     apart: bool,
 }
 
 impl Shown {
     fn by_library(asked: Asked) -> Self {
-        // As a number it is none that a call gives.
+        // A number that no call gives.
         const BESIDE: u64 = 0xA5A5_5A5A_C3C3_3C3C;
         let mut lent = [f64::from_bits(BESIDE); 3];
         let scale = f32::from_bits(asked.scale);
@@ -183,7 +185,7 @@ impl Shown {
         ))
     }
 
-    /// The same value as the library would give it.
+    /// The same value in the library's form.
     fn of(result: Result<f64, u8>) -> Self {
         Shown {
             number: result.err().unwrap_or(0).into(),
@@ -193,7 +195,7 @@ impl Shown {
     }
 }
 
-/// A value, and the presentation it is to be displayed by.
+/// A value, and the presentation by which it is to be displayed.
 #[derive(Clone, Copy, Debug)]
 pub struct Asked {
     pub value: i32,
@@ -204,7 +206,7 @@ pub struct Asked {
 }
 
 impl Asked {
-    /// Mostly a scale in range, so that the product is looked at.
+    /// Mostly with a scale in range, so that the product is compared.
     fn draw(random: &mut Random) -> Self {
         let between = random.between(LEAST_SCALE as usize, GREATEST_SCALE as usize) as u32;
         let any = random.draw() as u32;
@@ -234,8 +236,8 @@ impl Asked {
         }
     }
 
-    /// Has both sides display the value, and holds them to each other and to
-    /// the product in whole numbers.
+    /// Has both sides display the value, and compares them with each other and
+    /// with the product in whole numbers.
     pub fn by_both(self) -> Result<(), String> {
         let library = Shown::by_library(self);
         let second = Shown::by_second(self);
@@ -271,14 +273,16 @@ impl Asked {
         }
     }
 
-    /// The sum times the scale's mantissa, and the power of two it lacks.
+    /// The sum times the scale's mantissa, and the exponent of the power of two
+    /// by which that is still to be multiplied.
     fn whole_product(self) -> (i128, i32) {
         let mantissa = i128::from(self.scale % (1 << 23) + (1 << 23));
         let sum = i128::from(self.value) + i128::from(self.offset);
         (sum * mantissa, (self.scale >> 23) as i32 - 150)
     }
 
-    /// The value in whole numbers, rounded once: the power of two is exact.
+    /// The value computed in whole numbers and rounded once: the power of two
+    /// is exact.
     fn expected(self) -> Shown {
         let fits = self.scale_fits() && self.decimals <= MOST_DECIMALS;
         let (product, exponent) = self.whole_product();

@@ -1,4 +1,4 @@
-//! Commands judged by both sides, over pools of all kinds.
+//! Commands judged by both sides, with pools of all kinds.
 
 use super::library::{Judgement, Order};
 use crate::accepted;
@@ -16,7 +16,7 @@ use crate::sessions::longest;
 use crate::verdict::Verdict;
 use second::Kind;
 
-/// The commands that are judged; a row each.
+/// The commands that are judged; each has a row.
 const COMMANDS: [u32; 21] = [
     0,
     1,
@@ -41,7 +41,7 @@ const COMMANDS: [u32; 21] = [
     0x8000_0003,
 ];
 const VALUES: [i32; 6] = [i32::MIN, -1, 0, 1, 1_000, i32::MAX];
-/// Numbers that no element has, though some would fit without upper bits.
+/// Numbers that no element has, although some would fit without upper bits.
 const HIGH_NUMBERS: [u32; 9] = [
     4_096,
     4_097,
@@ -53,7 +53,8 @@ const HIGH_NUMBERS: [u32; 9] = [
     1 << 31,
     u32::MAX,
 ];
-/// Orders given to a seeded pool that is accepted, and to another one.
+/// How many orders are given for an accepted seeded pool, for other pools, and
+/// for the large fixed ones.
 const ORDERS: usize = 24;
 const FEW_ORDERS: usize = 4;
 const MANY_ORDERS: usize = 400;
@@ -94,8 +95,7 @@ const REFUSAL_COLUMNS: &[&str] = &[
     "32 before 7",
 ];
 
-/// Fixed pools, every property and trigger, and so many seeded pools, accepted
-/// and not.
+/// Fixed pools, every property and trigger, and seeded pools, accepted and not.
 pub fn compare(seed: u64, pools: u64) -> Part {
     let mut part = Part::new("judged commands", grids());
     compare_known(&mut part);
@@ -158,7 +158,7 @@ fn grids() -> Vec<Grid> {
     vec![errors, refusals]
 }
 
-/// A pool with what it was written from, if that is known.
+/// A pool with the records that it was written from, if they are known.
 struct Subject {
     pool: Vec<u8>,
     objects: Vec<Object>,
@@ -190,7 +190,7 @@ impl Subject {
         }
     }
 
-    /// Words of a table for all that the pool could have.
+    /// Words of a table for all records that the pool has or could have.
     fn words(&self) -> usize {
         if self.verdict.is_refused() {
             ENTRY_WORDS * self.verdict.most_entries
@@ -212,7 +212,7 @@ impl Subject {
     }
 }
 
-/// Commands over Q whose error bytes are known beforehand.
+/// Commands judged by Q whose error bytes are known beforehand.
 fn compare_known(part: &mut Part) {
     let pool = pool_q();
     let words = Verdict::of(&pool).needed();
@@ -232,7 +232,7 @@ fn compare_known(part: &mut Part) {
     }
 }
 
-/// Each set of properties and triggers that may be, with all commands.
+/// Each allowed set of properties and triggers, with all commands.
 fn every_bit(part: &mut Part) {
     for properties in 0..6 {
         for triggers in 0..32 {
@@ -367,7 +367,7 @@ fn draw_ddi(random: &mut Random, subject: &Subject, element: u32, ddis: &[u16]) 
     }
 }
 
-/// Has both sides judge the order, with a table of so many words.
+/// Has both sides judge the order, with a table of `words` words.
 fn give(part: &mut Part, subject: &Subject, words: usize, order: Order) {
     let input = || {
         let bytes = subject.pool.iter().map(|byte| format!("{byte:02X}"));
@@ -387,8 +387,8 @@ fn give(part: &mut Part, subject: &Subject, words: usize, order: Order) {
     }
 }
 
-/// The judgement with a table of so many words, on which both sides agree, as
-/// on all memory they were lent.
+/// The judgement with a table of `words` words, if both sides agree on it and
+/// on all memory that they were lent.
 pub fn judge_by_both(pool: &[u8], words: usize, order: Order) -> Result<Judgement, String> {
     let pool = &LentPool::new(pool);
     let second = by_second(words, |table| order.judge_by_second(pool.bytes(), table));
@@ -417,8 +417,8 @@ fn refusal(subject: &Subject, words: usize, judged: &Judgement) -> &'static str 
     }
 }
 
-/// The column of an error byte, by what the order was about as the pool's
-/// records have it.
+/// The column of an error byte, by what the pool's records say about the
+/// order's element and DDI.
 fn error(subject: &Subject, order: Order, error: u8) -> &'static str {
     let data = subject.data(order.element);
     let kind = data.iter().find(|it| it.ddi == order.ddi).map(|it| it.kind);

@@ -1,5 +1,5 @@
-//! The proved static library's messages, judgements and displayed values, by
-//! its bindings.
+//! Messages, judgements and displayed values of the proved static library,
+//! through its bindings.
 
 pub use lachsbrille::c::{
     displayed, message_read as read_message, message_write_acknowledge as write_acknowledge,
@@ -27,7 +27,7 @@ pub struct Order {
 pub struct Judgement {
     pub number: u32,
     pub error: u8,
-    /// Whether the bytes beside the error were left alone.
+    /// Whether the bytes around the error are unchanged.
     pub apart: bool,
 }
 
@@ -67,14 +67,14 @@ impl Of<Result<Message, u8>> for Fields {
     }
 }
 
-/// A number of a message that was read or written, which is in its range.
+/// Converts a number of a message that was read or written, which is in range.
 fn within<Number: TryFrom<u32>>(number: u32) -> Number {
     let number = Number::try_from(number).ok();
     number.expect("a message holds numbers in their ranges")
 }
 
 impl Order {
-    /// The library's judgement; the table counts words.
+    /// The library's judgement; the table consists of words.
     pub fn judge_by_library(self, pool: &[u8], table: &mut [u16]) -> Judgement {
         const BESIDE: u8 = 0xA5;
         let mut lent = [BESIDE; 3];
@@ -94,7 +94,7 @@ impl Order {
         }
     }
 
-    /// The second implementation's, as the library would give it.
+    /// The second implementation's judgement in the library's form.
     pub fn judge_by_second(self, pool: &[u8], table: &mut [Record]) -> Judgement {
         let Order {
             command,
@@ -111,7 +111,7 @@ impl Order {
     }
 }
 
-/// The same number as the library would give it.
+/// The same number in the library's form.
 pub fn number_of(result: Result<(), u8>) -> u32 {
     result.err().unwrap_or(0).into()
 }

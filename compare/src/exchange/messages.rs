@@ -16,8 +16,8 @@ const ACKNOWLEDGE: usize = 13;
 const GREATEST_ELEMENT: u32 = 4_095;
 const GREATEST_ANSWERED: u32 = 15;
 const VALUE_COMMANDS: [u32; 8] = [2, 3, 4, 5, 6, 7, 8, 10];
-/// Around the greatest, around a half byte, and such as fit without their
-/// upper bits.
+/// Elements around the greatest, around a half byte, and some that fit without
+/// their upper bits.
 const ELEMENTS: [u32; 20] = [
     0,
     1,
@@ -52,7 +52,7 @@ const ACK: usize = 3;
 const ACK_BACK: usize = 4;
 
 const READ_COLUMNS: &[&str] = &["0", "30 shorter", "30 longer", "31"];
-/// A message without a byte has no command.
+/// The row of messages without a byte, which have no command.
 const NO_COMMAND: usize = 16;
 /// The row of all commands over 16.
 const OVER_16: usize = 17;
@@ -71,7 +71,7 @@ const WRITE_COLUMNS: &[&str] = &[
 const ACK_ROWS: [&str; 4] = ["sound", "element over 4095", "answered over 15", "both"];
 const BACK_COLUMNS: &[&str] = &["as written"];
 
-/// Fixed messages, and so many seeded ones of each way.
+/// Fixed messages, and seeded ones to be read and to be written.
 pub fn compare(seed: u64, seeded: u64) -> io::Result<Part> {
     let mut part = Part::new("messages", grids());
     for line in vectors::load()? {
@@ -179,7 +179,7 @@ fn every_acknowledge_written(part: &mut Part, random: &mut Random) {
     }
 }
 
-/// Any message, half of them such as can be written.
+/// Any message; about half of them can be written.
 fn drawn(random: &mut Random) -> Message {
     let any = random.draw() as u16;
     let sound = u32::from(any) % (GREATEST_ELEMENT + 1);
@@ -197,7 +197,7 @@ fn drawn(random: &mut Random) -> Message {
     }
 }
 
-/// Mostly the number as it is, else with an upper bit that a narrower one
+/// Mostly the number as it is, otherwise with an upper bit that a narrower type
 /// would lose.
 fn widened(random: &mut Random, number: u32) -> u32 {
     match random.below(24) {
@@ -240,7 +240,7 @@ fn read(part: &mut Part, message: &[u8]) {
     part.take(READ, row, outcome, || format!("reading {message:02X?}"));
 }
 
-/// The message's fields or a refusal, on which both sides agree.
+/// The message's fields or a refusal, if both sides agree on it.
 pub fn read_by_both(message: &[u8]) -> Result<Fields, String> {
     let lent = LentPool::new(message);
     let library = library::read_message(lent.bytes());
@@ -254,7 +254,7 @@ pub fn read_by_both(message: &[u8]) -> Result<Fields, String> {
     }
 }
 
-/// Has both sides write the message into so many bytes and read it back.
+/// Has both sides write the message into `length` bytes and read it back.
 fn write(part: &mut Part, message: Message, length: usize) {
     let input = || format!("writing {message:?} into {length} bytes");
     let (grid, row) = match message {
@@ -292,8 +292,8 @@ fn read_back(part: &mut Part, message: Message, written: &[u8]) {
     part.take(grid, row, outcome, || format!("reading back {message:?}"));
 }
 
-/// The message's bytes or the number of the refusal, on which both sides
-/// agree, as on all memory around.
+/// The message's bytes or the number of the refusal, if both sides agree on it
+/// and on all memory around.
 pub fn write_by_both(message: Message, length: usize) -> Result<Result<Vec<u8>, u8>, String> {
     let before: Vec<u8> = untouched(length);
     let (mut ours, mut theirs) = (LentArea::new(&before), LentArea::new(&before));
@@ -346,7 +346,7 @@ fn column(message: Message, number: u32, length: usize) -> &'static str {
     }
 }
 
-/// Holds both sides to a test vector.
+/// Compares both sides with a test vector.
 fn compare_line(part: &mut Part, line: Line) {
     let given = match &line.asked {
         Asked::Read(bytes) => {

@@ -7,7 +7,7 @@ use std::io;
 
 const FILE: &str = concat!(env!("CARGO_MANIFEST_DIR"), "/../vectors/messages.txt");
 
-/// What both sides are asked, and what they owe for it.
+/// What both sides are asked, and what they must answer.
 pub struct Line {
     pub asked: Asked,
     pub expected: String,
@@ -70,7 +70,7 @@ fn parse_hex(text: &str) -> Option<Vec<u8>> {
         .collect()
 }
 
-/// What was read, as a vector has it.
+/// What was read, in the form of the vectors.
 pub fn fields_line(fields: Fields) -> String {
     let Fields {
         number,
@@ -88,7 +88,7 @@ pub fn fields_line(fields: Fields) -> String {
     }
 }
 
-/// What was written, as a vector has it.
+/// What was written, in the form of the vectors.
 pub fn written_line(written: Result<Vec<u8>, u8>) -> String {
     match written {
         Ok(bytes) => bytes.iter().map(|byte| format!("{byte:02X}")).collect(),

@@ -1,4 +1,4 @@
-//! Log records that are written down to be read, and to be written by others.
+//! Drafts of log records, which both sides then read or write.
 
 use super::library::{Fields, Record};
 use super::rules::{
@@ -9,10 +9,10 @@ use crate::library::Of;
 use crate::random::Random;
 use second::LogFields;
 
-/// Header counts around the ordinals' ends.
+/// Header counts around the ends of the ordinals' range.
 pub const HEADER_COUNTS: [usize; 8] = [0, 1, 2, 128, 255, 256, 257, usize::MAX];
-/// Layouts that are refused: each bit above 8 alone, and some together. The
-/// later ones are not refused once their upper half is gone.
+/// Layouts that are refused: bits above 8, alone and with others. The later
+/// ones, except the last, would not be refused without their upper half.
 pub const REFUSED_LAYOUTS: [u32; 18] = [
     512,
     513,
@@ -33,7 +33,7 @@ pub const REFUSED_LAYOUTS: [u32; 18] = [
     0x8000_01FF,
     u32::MAX,
 ];
-/// Around the limit, and such as have the top bit set.
+/// Times around the limit, and some with the top bit set.
 pub const TIMES: [u32; 7] = [
     0,
     GREATEST_TIME - 1,
@@ -59,7 +59,7 @@ pub struct Draft {
 }
 
 impl Draft {
-    /// A record of so many values that nothing speaks against but its layout.
+    /// A record of `count` values in which nothing but its layout can be wrong.
     pub fn draw(random: &mut Random, layout: u32, count: usize) -> Self {
         let any = random.between(1, 300);
         let edge = random.pick(&HEADER_COUNTS);
@@ -67,7 +67,8 @@ impl Draft {
         Draft::under(random, layout, logged.max(count.min(1)), count)
     }
 
-    /// The same under a header, whose count is not 0 if there are values.
+    /// The same with a given header count, which must not be 0 if there are
+    /// values.
     pub fn under(random: &mut Random, layout: u32, logged: usize, count: usize) -> Self {
         let ordinals = logged.min(256);
         let mut draft = Draft {
@@ -87,12 +88,12 @@ impl Draft {
         self.ordinals.len()
     }
 
-    /// The record, whatever it holds.
+    /// The bytes of the record, whether it is sound or not.
     pub fn bytes(&self) -> Vec<u8> {
         bytes_of(self.layout, &self.fields, &self.ordinals, &self.values)
     }
 
-    /// What reading the record owes.
+    /// What reading the record must give.
     pub fn record(&self) -> Record {
         Record {
             number: 0,
@@ -102,8 +103,8 @@ impl Draft {
         }
     }
 
-    /// Has the record break one of the limits 41 to 45, if it has what the
-    /// limit is about.
+    /// Makes the record one that is refused with this number, 41 to 45, if it
+    /// has the field that the number is about.
     pub fn breach(&mut self, random: &mut Random, number: u32) -> bool {
         let is_marked = |field: usize| width(self.layout, field) > 0;
         let fields = &mut self.fields;
@@ -136,7 +137,7 @@ pub fn draw_layout(random: &mut Random) -> u32 {
     }
 }
 
-/// The count of a record, mostly a small one.
+/// How many values a record has, mostly few.
 pub fn draw_count(random: &mut Random) -> usize {
     match random.below(8) {
         0 => 0,
@@ -172,7 +173,7 @@ pub fn bytes_of(layout: u32, fields: &LogFields, ordinals: &[u8], values: &[i32]
     bytes
 }
 
-/// The fields with 0 for those that are not marked.
+/// The fields, with 0 for those that are not marked.
 pub fn kept(layout: u32, fields: &LogFields) -> Fields {
     let mut kept = Fields::of(fields);
     let clear: [fn(&mut Fields); WIDTHS.len()] = [
@@ -194,7 +195,7 @@ pub fn kept(layout: u32, fields: &LogFields) -> Fields {
     kept
 }
 
-/// Fields within their limits; those that are not marked are any.
+/// Fields within their limits; those that are not marked have any value.
 fn draw_fields(random: &mut Random, layout: u32) -> LogFields {
     let mut fields = LogFields {
         time: random.below(GREATEST_TIME as usize + 1) as u32,
@@ -230,7 +231,7 @@ fn draw_number(random: &mut Random) -> i32 {
     random.pick(&[any, any, edge])
 }
 
-/// A number within the limit of these places, at times at it.
+/// A number within the limit that these places are around, sometimes at it.
 fn draw_within(random: &mut Random, places: &[i32; 9]) -> i32 {
     let greatest = places[1] as usize;
     let any = random.between(0, 2 * greatest) as i64 - greatest as i64;
@@ -238,7 +239,7 @@ fn draw_within(random: &mut Random, places: &[i32; 9]) -> i32 {
     random.pick(&[any as i32, any as i32, edge])
 }
 
-/// Five places within a limit to both sides, and four beyond it.
+/// Five numbers within a limit in both directions, and four beyond it.
 const fn around(greatest: i32) -> [i32; 9] {
     [
         0,

@@ -1,5 +1,5 @@
-//! The refusals of a call, counted one by one and by what else spoke against
-//! the input, so that their order is seen too.
+//! The refusals of a call, counted one by one and by the other causes for which
+//! the input could be refused, so that their order is seen too.
 
 use super::rules::Causes;
 use crate::grid::Grid;
@@ -12,12 +12,13 @@ pub const MORE: usize = 2;
 
 const IN_ALL: &str = "in all";
 const ALONE: &str = "alone";
-/// With the number of the other cause.
+/// The columns; "and" with the number of the other cause.
 const COLUMNS: &[&str] = &[
     IN_ALL, ALONE, "and 40", "and 41", "and 42", "and 43", "and 44", "and 45", "and 46", "and 48",
 ];
 
-/// How a call refuses, and the ways in which its answers come about.
+/// The order of a call's refusals, and the ways in which its answers come
+/// about.
 pub struct Ladder {
     pub name: &'static str,
     /// The titles of its two grids.
@@ -27,7 +28,7 @@ pub struct Ladder {
 }
 
 impl Ladder {
-    /// A part with these grids, and one more where there is one.
+    /// A part with these two grids, and one more if there is one.
     pub fn part(&self, more: Option<Grid>) -> Part {
         let [refusals, ways] = self.titles;
         let rows = self.order.iter().map(u32::to_string).chain(["0".into()]);
@@ -47,8 +48,8 @@ impl Ladder {
         )
     }
 
-    /// Counts a call of both sides that gave this number in this way, or says
-    /// where they part. The number has to be that of the first cause.
+    /// Counts a call of both sides that gave this number in this way, or notes
+    /// where they differ. The number has to be that of the first cause.
     pub fn take(
         &self,
         part: &mut Part,
@@ -80,7 +81,7 @@ impl Ladder {
     }
 }
 
-/// The column of a cause that holds beside the first.
+/// The column of a cause that holds besides the first.
 fn beside(number: u32) -> &'static str {
     match number {
         40 => "and 40",

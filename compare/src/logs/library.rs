@@ -1,4 +1,4 @@
-//! The proved static library's log functions, by its bindings.
+//! The proved static library's log functions, through its bindings.
 
 pub use lachsbrille::c::{
     log_optional_fields as optional_fields, log_read as read_log_into,
@@ -10,7 +10,7 @@ use crate::library::{Of, UNWRITTEN};
 use second::{LogFields, LogRecord, LogRefusal};
 
 /// Reads a record. Before the call the result holds what no call gives, so
-/// that a field which is not written shows.
+/// that a field which is not written is noticed.
 pub fn read_record(
     bytes: &[u8],
     layout: u32,

@@ -41,7 +41,7 @@ pub fn compare(seed: u64, pools: u64) -> io::Result<Report> {
 }
 
 /// The number of optional fields of every layout of 16 bits, and of many that
-/// are one of these but for their upper half.
+/// would be one of these without their upper half.
 fn every_layout() -> Part {
     let grid = Grid::new("optional fields", [""], MARKS, |_, _| true);
     let mut part = Part::new("log layouts", vec![grid]);
@@ -58,7 +58,7 @@ fn every_layout() -> Part {
     part
 }
 
-/// The number of optional fields, on which both sides and the rules agree.
+/// The number of optional fields, if both sides and the rules agree on it.
 pub fn layout_by_both(layout: u32) -> Result<Marks, String> {
     let library = library::optional_fields(layout);
     let second = Marks::of(second::optional_fields(layout));

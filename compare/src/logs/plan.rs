@@ -9,14 +9,14 @@ use second::LogFields;
 
 /// Layouts without and with all optional fields, the vector's and others.
 pub const SOME_LAYOUTS: [u32; 6] = [0, 0x1FF, 0x00B, 0x009, 0x0F4, 0x155];
-/// Counts that all layouts get.
+/// Counts that are used with all layouts.
 const SOME_COUNTS: [usize; 6] = [0, 1, 2, 17, 128, 255];
-/// Fields without a limit, before the status and behind it.
+/// Fields without a limit, before the status and after it.
 const UP: usize = 2;
 const HDOP: usize = 5;
-/// Known ones and others, next to each other.
+/// Known statuses and unknown ones, next to each other.
 const SOME_STATUSES: [u8; 9] = [0, 8, 9, 13, 14, 15, 16, 127, 255];
-/// Refused layouts that are drawn beside the fixed ones.
+/// How many refused layouts are drawn besides the fixed ones.
 const DRAWN_LAYOUTS: usize = 21;
 /// The count of records that are cut at every byte.
 const CUT_COUNT: usize = 2;
@@ -44,8 +44,8 @@ pub fn every_layout(random: &mut Random) -> Vec<u32> {
     (0..LAYOUTS).chain(refused).collect()
 }
 
-/// Whether a record of every size is to be cut at every byte: with few values
-/// under every layout, with more under some.
+/// Whether a record is to be cut at every byte: with few values under every
+/// layout, with many under some.
 pub fn is_cut(draft: &Draft) -> bool {
     let is_long = [30, MOST_VALUES].contains(&draft.count());
     draft.count() == CUT_COUNT || is_long && SOME_LAYOUTS.contains(&draft.layout)
@@ -63,7 +63,7 @@ pub fn every_limit(random: &mut Random) -> Vec<Draft> {
     drafts
 }
 
-/// One field at a time, under every layout: one that is not marked too.
+/// One field at a time, under every layout, including unmarked fields.
 fn single_fields(drafts: &mut Vec<Draft>, random: &mut Random) {
     for layout in 0..LAYOUTS {
         let count = random.below(4);
@@ -88,7 +88,8 @@ fn single_fields(drafts: &mut Vec<Draft>, random: &mut Random) {
     }
 }
 
-/// All fields that have limits and an ordinal, each within and beyond.
+/// All fields that have limits and an ordinal, each within its limit and beyond
+/// it.
 fn joint_fields(drafts: &mut Vec<Draft>, random: &mut Random) {
     let times = [GREATEST_TIME, GREATEST_TIME + 1];
     let norths = [-GREATEST_NORTH, GREATEST_NORTH + 1, i32::MIN];
@@ -119,7 +120,7 @@ fn every_status(drafts: &mut Vec<Draft>, random: &mut Random) {
     }
 }
 
-/// All choices of the fields that have limits, with others between.
+/// All combinations of the fields that have limits, and of others between them.
 fn limited_layouts() -> impl Iterator<Item = u32> {
     (0..32).map(|choice| {
         let fields = [NORTH, EAST, UP, STATUS, HDOP];
@@ -149,8 +150,8 @@ fn header_counts(drafts: &mut Vec<Draft>, random: &mut Random) {
     }
 }
 
-/// Records of every count with one ordinal too high: at every place of short
-/// records and of the longest, else at the last place and another.
+/// Records of every count with one ordinal too high: at every place in short
+/// records and in the longest, otherwise at the last place and another.
 fn every_ordinal(drafts: &mut Vec<Draft>, random: &mut Random) {
     for count in 1..=MOST_VALUES {
         let is_full = count <= 40 || count == MOST_VALUES;
@@ -165,20 +166,20 @@ fn every_ordinal(drafts: &mut Vec<Draft>, random: &mut Random) {
     }
 }
 
-/// Lengths on both sides of this one, and none.
+/// This length, its neighbours and 0.
 pub fn around(length: usize) -> Vec<usize> {
     let mut lengths = vec![0, length.saturating_sub(1), length, length + 1];
     lengths.dedup();
     lengths
 }
 
-/// Up to so many bytes.
+/// Up to `most` random bytes.
 pub fn any_bytes(random: &mut Random, most: usize) -> Vec<u8> {
     let count = random.between(0, most);
     (0..count).map(|_| random.byte()).collect()
 }
 
-/// Changes a byte or some, if there are any.
+/// Changes one or a few bytes, if there are any.
 pub fn change(random: &mut Random, bytes: &mut [u8]) {
     for _ in 0..random.between(1, 3) {
         if !bytes.is_empty() {

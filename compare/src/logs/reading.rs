@@ -28,7 +28,7 @@ const LADDER: Ladder = Ladder {
         "others",
     ],
 };
-/// Bytes that are laid behind a record.
+/// How many bytes are put after a record.
 const BEHIND: [usize; 3] = [1, 5, 90];
 
 /// A record to be read from the start of the bytes.
@@ -65,7 +65,8 @@ impl Lists {
 }
 
 impl<'a> Reading<'a> {
-    /// Of these bytes under the draft's header, with lists that just do.
+    /// Reads these bytes under the draft's header, with lists that just
+    /// suffice.
     pub fn of(bytes: &'a [u8], draft: &Draft) -> Self {
         Reading {
             bytes,
@@ -75,7 +76,7 @@ impl<'a> Reading<'a> {
         }
     }
 
-    /// Has both sides read, and gives what both gave or where they part: in
+    /// Has both sides read, and gives what both gave or where they differ: in
     /// the record, the bytes, a list or a guard.
     pub fn by_both(self) -> Result<Read, String> {
         let (layout, logged) = (self.layout, self.logged);
@@ -108,8 +109,8 @@ impl<'a> Reading<'a> {
         }
     }
 
-    /// The same, where the bytes start with this draft's. Unless it is
-    /// refused, all of the draft is owed.
+    /// The same for bytes that start with this draft's. Unless it is refused,
+    /// the whole draft must be read.
     fn of_known(self, draft: &Draft) -> Result<Read, String> {
         let read = self.by_both()?;
         if read.record.number != 0 || read.is_of(draft) {
@@ -148,7 +149,7 @@ impl<'a> Reading<'a> {
 }
 
 impl Read {
-    /// Whether all of this draft was read, and nothing else.
+    /// Whether exactly this draft was read.
     pub fn is_of(&self, draft: &Draft) -> bool {
         self.record == draft.record() && self.holds(&draft.ordinals, &draft.values)
     }
@@ -159,13 +160,13 @@ impl Read {
     }
 }
 
-/// Whether the list starts so and is untouched from there on.
+/// Whether the list begins with `start` and is untouched after it.
 fn starts_alone<T: Place>(list: &[T], start: &[T]) -> bool {
     let noise = (start.len()..list.len()).map(T::noise);
     list.starts_with(start) && noise.eq(list[start.len()..].iter().copied())
 }
 
-/// Fixed records, and so many seeded ones.
+/// Fixed records, and `seeded` seeded ones.
 pub fn compare(vector: &Vector, seed: u64, seeded: u64) -> Part {
     let mut part = LADDER.part(None);
     compare_vector(&mut part, vector);
@@ -215,7 +216,8 @@ fn compare_vector(part: &mut Part, vector: &Vector) {
     every_cut(part, &vector.draft, &vector.bytes);
 }
 
-/// Lists on both sides of what the record takes, and of different lengths.
+/// Lists of lengths around what the record needs, also different from each
+/// other.
 fn every_list(part: &mut Part, draft: &Draft, bytes: &[u8]) {
     let count = draft.count();
     for ordinals in plan::around(count) {
@@ -236,7 +238,7 @@ fn every_cut(part: &mut Part, draft: &Draft, bytes: &[u8]) {
     }
 }
 
-/// Bytes behind a record do not matter, whatever they are.
+/// Bytes after a record do not matter, whatever they are.
 fn more_behind(part: &mut Part, random: &mut Random, draft: &Draft) {
     let mut bytes = draft.bytes();
     let more = random.pick(&BEHIND);

@@ -1,5 +1,5 @@
-//! The rules of a log record, looked up byte by byte: for which causes a call
-//! can refuse, whether or not an earlier cause hides them.
+//! The rules of a log record, applied byte by byte: all causes for which a call
+//! could be refused, even if an earlier cause hides them.
 
 use super::library::Log;
 use second::LogFields;
@@ -8,30 +8,31 @@ pub const GREATEST_TIME: u32 = 86_399_999;
 pub const GREATEST_NORTH: i32 = 900_000_000;
 pub const GREATEST_EAST: i32 = 1_800_000_000;
 pub const STATUSES: [u8; 11] = [0, 1, 2, 3, 4, 5, 6, 7, 8, 14, 15];
-/// Values of a record.
+/// The most values of a record.
 pub const MOST_VALUES: usize = 255;
-/// Layouts with a bit above 8 are refused.
+/// How many layouts there are: those with a bit above 8 are refused.
 pub const LAYOUTS: u32 = 512;
-/// An ordinal with its value.
+/// Bytes of an ordinal with its value.
 pub const PAIR_BYTES: usize = 5;
 
-/// Optional fields by their bit: their bytes, and those that have a limit.
+/// Bytes of the optional fields by their bits, and the bits of those that have
+/// a limit.
 pub const WIDTHS: [usize; 9] = [4, 4, 4, 1, 2, 2, 1, 4, 2];
 pub const NORTH: usize = 0;
 pub const EAST: usize = 1;
 pub const STATUS: usize = 3;
 
-/// The refusals of each call, the one that goes before the others first.
+/// The refusals of each call, in the order of precedence.
 pub const READING: &[u32] = &[47, 40, 41, 42, 43, 44, 45, 46];
 pub const WRITING: &[u32] = &[47, 48, 41, 42, 43, 44, 45, 46];
 pub const LOG: &[u32] = &[47, 40, 41, 42, 43, 44, 45];
 
 const LEAST_NUMBER: u32 = 40;
 
-/// The refusals whose causes hold of one call.
+/// The refusals whose causes hold for one call.
 #[derive(Clone, Copy, Debug, Default, PartialEq, Eq)]
 pub struct Causes {
-    /// By their numbers from 40 on.
+    /// One bit for each number from 40 on.
     bits: u16,
 }
 
@@ -44,15 +45,15 @@ impl Causes {
         self.bits >> (number - LEAST_NUMBER) & 1 == 1
     }
 
-    /// The number that a call with these refusals owes; 0 if nothing holds.
+    /// The number that a call with these refusals must give; 0 if none holds.
     pub fn first(self, order: &[u32]) -> u32 {
         let mut numbers = order.iter().filter(|&&number| self.hold(number));
         numbers.next().copied().unwrap_or(0)
     }
 
-    /// Of a record that starts with the bytes and is read into lists of these
-    /// lengths. Of a record that is cut, by the bytes that are there; under a
-    /// refused layout, by its lower bits.
+    /// For a record at the start of the bytes that is read into lists of these
+    /// lengths. A cut record is judged by the bytes that are there, and one
+    /// under a refused layout by the layout's lower bits.
     pub fn of_reading(bytes: &[u8], layout: u32, logged: usize, lists: [usize; 2]) -> Self {
         let count_at = place(layout, WIDTHS.len());
         let count = bytes.get(count_at).map(|&count| usize::from(count));
@@ -76,8 +77,8 @@ impl Causes {
         causes
     }
 
-    /// Of a record of the first `count` ordinals and values that is written
-    /// into so many bytes.
+    /// For a record of the first `count` ordinals and values that is written
+    /// into `room` bytes.
     pub fn of_writing(
         layout: u32,
         fields: &LogFields,
@@ -106,7 +107,8 @@ impl Causes {
         causes
     }
 
-    /// Of the record at which reading a log stops, with what it owes then.
+    /// For the record at which reading a log stops, with the answer that must
+    /// be given.
     pub fn of_log(bytes: &[u8], layout: u32, logged: usize) -> (Self, Log) {
         let mut log = Log::default();
         while layout >= LAYOUTS || log.start < bytes.len() {
@@ -136,7 +138,7 @@ pub fn optional_fields(layout: u32) -> Result<u32, u8> {
     }
 }
 
-/// Where an optional field stands, if it is marked. The count comes last.
+/// Where an optional field is, if it is marked. The count comes last.
 pub fn place(layout: u32, field: usize) -> usize {
     let time_and_days = 4 + 2;
     time_and_days
@@ -145,7 +147,7 @@ pub fn place(layout: u32, field: usize) -> usize {
             .sum::<usize>()
 }
 
-/// Bytes of an optional field; 0 where it is not marked.
+/// Bytes of an optional field; 0 if it is not marked.
 pub fn width(layout: u32, field: usize) -> usize {
     if layout >> field & 1 == 1 {
         WIDTHS[field]
@@ -154,7 +156,7 @@ pub fn width(layout: u32, field: usize) -> usize {
     }
 }
 
-/// The number in so many bytes, if they are there and any at all.
+/// The number in `width` bytes, if there are that many and `width` is not 0.
 fn number(bytes: &[u8], at: usize, width: usize) -> Option<u32> {
     let bytes = bytes.get(at..at + width).filter(|it| !it.is_empty())?;
     let digits = bytes.iter().rev();

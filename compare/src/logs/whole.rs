@@ -25,11 +25,11 @@ const LADDER: Ladder = Ladder {
         "47",
     ],
 };
-/// Counts of the records of a short log.
+/// The counts of values in the records of a short log.
 const COUNTS: [usize; 6] = [2, 0, 1, 17, 0, 3];
 /// Header counts under which logs are torn and changed.
 const HEADERS: [usize; 2] = [20, 256];
-/// Records of a day, one a second.
+/// Records of a day, one per second.
 const DAY: usize = 86_400;
 
 /// A log to be read.
@@ -41,7 +41,7 @@ pub struct Whole<'a> {
 }
 
 impl<'a> Whole<'a> {
-    /// Of these bytes under the draft's header.
+    /// Reads these bytes under the draft's header.
     pub fn of(bytes: &'a [u8], draft: &Draft) -> Self {
         Whole {
             bytes,
@@ -50,7 +50,7 @@ impl<'a> Whole<'a> {
         }
     }
 
-    /// Has both sides read, and gives what both gave or where they part.
+    /// Has both sides read, and gives what both gave or where they differ.
     pub fn by_both(self) -> Result<Log, String> {
         let Whole { layout, logged, .. } = self;
         let bytes = LentPool::new(self.bytes);
@@ -72,7 +72,7 @@ impl<'a> Whole<'a> {
     }
 }
 
-/// Fixed logs, and so many seeded ones.
+/// Fixed logs, and `seeded` seeded ones.
 pub fn compare(vector: &Vector, seed: u64, seeded: u64) -> Part {
     let mut part = LADDER.part(None);
     let random = &mut Random::new(seed ^ 0x10C2);
@@ -99,7 +99,7 @@ fn take(part: &mut Part, asked: Whole) {
     LADDER.take(part, causes, outcome, || asked.describe());
 }
 
-/// The same for a log of which the answer is known.
+/// The same for a log for which the answer is known.
 fn take_known(part: &mut Part, asked: Whole, known: Log) {
     take(part, asked);
     match asked.by_both() {
@@ -121,7 +121,7 @@ fn way(log: Log) -> &'static str {
     }
 }
 
-/// Records of one log. Without log values none has a value.
+/// Records of one log. If the header has no log values, no record has a value.
 fn records(random: &mut Random, layout: u32, logged: usize, counts: &[usize]) -> Vec<Draft> {
     let counts = counts.iter();
     counts
@@ -134,7 +134,7 @@ fn joined(records: &[Draft]) -> Vec<u8> {
     records.iter().flat_map(Draft::bytes).collect()
 }
 
-/// Under every layout logs without a record, with some, and with one of them
+/// Under every layout: logs without a record, with some, and with one of them
 /// broken or cut.
 fn every_layout(part: &mut Part, random: &mut Random) {
     for layout in plan::every_layout(random) {
@@ -215,7 +215,7 @@ fn every_change(part: &mut Part, sound: &[Draft]) {
     }
 }
 
-/// A record behind a sound one and before another.
+/// A record after a sound one and before another.
 fn between_others(part: &mut Part, random: &mut Random, draft: &Draft) {
     let counts = [random.below(4), random.below(4)];
     let others = records(random, draft.layout, draft.logged, &counts);

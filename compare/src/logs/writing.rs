@@ -32,13 +32,13 @@ const LADDER: Ladder = Ladder {
     ],
 };
 const BACK: &[&str] = &["alone", "in a longer buffer", "as a log"];
-/// Counts that are a byte once their upper bits are gone.
+/// Added to a count, they are lost if it is cut to a byte.
 const WRAPPING: [usize; 4] = [1 << 8, 1 << 16, 1 << 32, usize::MAX - 255];
 /// Longer than any record's lists.
 const LONG_LIST: usize = 300;
 const LONG_ROOM: usize = 2_000;
 
-/// A record to be written: the draft's, but for the count and the room.
+/// A record to be written: the draft's, with a given count and room.
 #[derive(Clone, Copy)]
 pub struct Writing<'a> {
     pub draft: &'a Draft,
@@ -47,7 +47,7 @@ pub struct Writing<'a> {
 }
 
 impl<'a> Writing<'a> {
-    /// All of the draft's values, into just so many bytes.
+    /// All of the draft's values, into exactly as many bytes as they need.
     pub fn of(draft: &'a Draft) -> Self {
         let count = draft.count();
         Writing {
@@ -62,7 +62,7 @@ impl<'a> Writing<'a> {
     }
 
     /// Has both sides write, and gives what both gave and the bytes, or where
-    /// they part: in the answer, the bytes, a list or a guard.
+    /// they differ: in the answer, the bytes, a list or a guard.
     pub fn by_both(self) -> Result<(Written, Vec<u8>), String> {
         let Writing { count, room, .. } = self;
         let draft = self.draft;
@@ -91,7 +91,7 @@ impl<'a> Writing<'a> {
         }
     }
 
-    /// Holds what both sides wrote to what they owe.
+    /// Compares what both sides wrote with what they must write.
     fn check(self, written: Written, to: &[u8]) -> Result<(Written, Vec<u8>), String> {
         let due = self.causes().first(WRITING);
         if written.number != due {
@@ -150,12 +150,12 @@ impl<'a> Writing<'a> {
     }
 }
 
-/// Bytes of a record.
+/// Length of a record in bytes.
 fn length(layout: u32, count: usize) -> usize {
     place(layout, WIDTHS.len()) + 1 + PAIR_BYTES * count
 }
 
-/// Fixed records, and so many seeded ones.
+/// Fixed records, and `seeded` seeded ones.
 pub fn compare(vector: &Vector, seed: u64, seeded: u64) -> Part {
     let back = Grid::new("log record read back", [""], BACK, |_, _| true);
     let mut part = LADDER.part(Some(back));
@@ -182,7 +182,7 @@ pub fn compare(vector: &Vector, seed: u64, seeded: u64) -> Part {
     part
 }
 
-/// Has both sides write and, if they do, read back.
+/// Has both sides write and, if that is not refused, read back.
 fn take(part: &mut Part, asked: Writing) {
     let outcome = asked.by_both();
     let bytes = outcome.clone().ok().filter(|(it, _)| it.number == 0);
@@ -193,7 +193,7 @@ fn take(part: &mut Part, asked: Writing) {
     }
 }
 
-/// What was written is read on its own, with what lies behind it, and as a log.
+/// What was written is read by itself, with the bytes after it, and as a log.
 fn read_back(part: &mut Part, asked: Writing, bytes: &[u8], length: usize) {
     let input = || format!("reading back, {}", asked.describe());
     let mut draft = asked.draft.clone();
@@ -228,7 +228,7 @@ fn compare_vector(part: &mut Part, vector: &Vector) {
     }
 }
 
-/// Room on both sides of what the record takes; every room for some.
+/// Room around what the record needs; every smaller room for some records.
 fn every_room(part: &mut Part, draft: &Draft) {
     let asked = Writing::of(draft);
     for room in plan::around(asked.room) {
@@ -242,7 +242,7 @@ fn every_room(part: &mut Part, draft: &Draft) {
     }
 }
 
-/// Lists on both sides of the count, and of different lengths.
+/// Lists of lengths around the count, also different from each other.
 fn every_list(part: &mut Part, draft: &Draft) {
     let asked = Writing::of(draft);
     for ordinals in plan::around(draft.count()) {
@@ -253,7 +253,7 @@ fn every_list(part: &mut Part, draft: &Draft) {
     }
 }
 
-/// Counts below and above that of the lists, and above 255.
+/// Counts below and above the lists' length, and above 255.
 fn every_count(part: &mut Part, random: &mut Random, draft: &Draft) {
     let asked = Writing::of(draft);
     for count in [0, asked.count / 2, asked.count + 1] {
@@ -275,8 +275,8 @@ fn every_count(part: &mut Part, random: &mut Random, draft: &Draft) {
     }
 }
 
-/// The draft with its lists cut or continued, by ordinals that are too high
-/// where any is.
+/// The draft with its lists cut or extended. Ordinals that are added are 255,
+/// which is too high if any ordinal is.
 fn with_lists(draft: &Draft, [ordinals, values]: [usize; 2]) -> Draft {
     let mut draft = draft.clone();
     draft.ordinals.resize(ordinals, 255);

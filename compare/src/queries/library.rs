@@ -1,4 +1,4 @@
-//! The proved static library's answers to queries, by its bindings.
+//! The proved static library's answers to queries, through its bindings.
 
 use crate::library::{Of, UNWRITTEN};
 use lachsbrille::c::{self, DeviceLabels, Record as TableEntry};
@@ -20,7 +20,7 @@ pub fn text(pool: &[u8], table: &mut [u16], id: u32) -> TextAnswer {
 }
 
 /// Asks the proved library for the labels. Before the call the result holds
-/// what no call gives, so that a field which is not written shows.
+/// what no call gives, so that a field which is not written is noticed.
 pub fn labels(pool: &[u8], table: &mut [u16]) -> DeviceLabels {
     const UNWRITTEN: u8 = 0xA5;
     let mut labels = DeviceLabels {
@@ -34,12 +34,12 @@ pub fn labels(pool: &[u8], table: &mut [u16]) -> DeviceLabels {
     labels
 }
 
-/// The same into a result that is lent, to be timed.
+/// The same into a lent result, to be timed.
 pub fn labels_into(labels: &mut DeviceLabels, pool: &[u8], table: &mut [u16]) {
     c::labels(labels, pool, TableEntry::table(table));
 }
 
-/// The same answer as the library would give it; a text is a part of `pool`.
+/// The same answer in the library's form; a text is a part of `pool`.
 pub fn text_answer_of(pool: &[u8], result: Result<&[u8], u8>) -> TextAnswer {
     match result {
         Ok(text) => {

@@ -11,7 +11,7 @@ use lachsbrille::c::DeviceLabels;
 use second::Record;
 use std::collections::BTreeSet;
 
-/// All IDs are asked for if there are at most so many, otherwise mostly a
+/// If a pool has at most this many IDs, all are asked for, otherwise mostly a
 /// sample.
 const FEW_IDS: usize = 30;
 const SAMPLED_IDS: usize = 6;
@@ -24,7 +24,7 @@ pub enum Query {
 }
 
 impl Query {
-    /// Asks both sides, with a table of so many words.
+    /// Asks both sides, with a table of `table` words.
     pub fn compare(self, pool: &LentPool, table: usize) -> Compared {
         match self {
             Query::Text(id) => text(pool, table, id),
@@ -49,18 +49,19 @@ impl Query {
     }
 }
 
-/// What a pool is asked, each with the words of its table.
+/// The queries for a pool, each with the length of its table in words.
 pub fn queries(verdict: &Verdict, effort: Effort) -> Vec<(Query, usize)> {
     let tables = tables(verdict, effort);
     let ids = ids(verdict, effort);
     let texts = ids.into_iter().map(|id| (Query::Text(id), tables[0]));
-    // Where the pool is not read, the ID matters no more.
+    // Other tables need one ID only: if a table is too short, it does not
+    // matter.
     let other_tables = tables[1..].iter().map(|&table| (Query::Text(0), table));
     let labels = tables.iter().map(|&table| (Query::Labels, table));
     texts.chain(other_tables).chain(labels).collect()
 }
 
-/// Asks for the text of an ID, with a table of so many words.
+/// Asks for the text of an ID, with a table of `table` words.
 fn text(pool: &LentPool, table: usize, id: u32) -> Compared {
     let second = by_second(table, |table| {
         library::text_answer_of(pool.bytes(), second::text(pool.bytes(), table, id))
@@ -69,7 +70,7 @@ fn text(pool: &LentPool, table: usize, id: u32) -> Compared {
     compare(pool, library, second, |answer| answer.number)
 }
 
-/// Asks for the labels, with a table of so many words.
+/// Asks for the labels, with a table of `table` words.
 fn labels(pool: &LentPool, table: usize) -> Compared {
     let second = by_second(table, |table| {
         DeviceLabels::of(second::labels(pool.bytes(), table))
@@ -90,9 +91,9 @@ fn tables(verdict: &Verdict, effort: Effort) -> Vec<usize> {
     }
 }
 
-/// The IDs to ask for: those of an accepted pool, all or some, with 0,
-/// 65535 and some that no record carries, also such as one has in its lower
-/// half. Of another pool a few.
+/// The IDs to ask for: all or some of an accepted pool, with 65535 and some
+/// that no record carries, even if one carries their lower half. For other
+/// pools only a few.
 fn ids(verdict: &Verdict, effort: Effort) -> BTreeSet<u32> {
     let carried: BTreeSet<u32> = (verdict.records.iter())
         .map(|record| record.id.into())

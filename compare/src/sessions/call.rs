@@ -12,7 +12,7 @@ use std::fmt;
 pub enum Call {
     Offer(usize),
     Transfer(Vec<u8>),
-    /// With a table of so many words.
+    /// With a table of this many words.
     Activate(usize),
     Deactivate,
     Delete,
@@ -82,7 +82,7 @@ impl Call {
         (step, table)
     }
 
-    /// Enters the call into the book, which knows of the areas their lengths.
+    /// Enters the call into the book, which knows only the areas' lengths.
     pub fn by_book(&self, book: &mut Book, staging: usize, kept: usize) -> Entry {
         match self {
             Call::Offer(size) => book.offer(*size, staging, kept),

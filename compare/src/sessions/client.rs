@@ -1,4 +1,4 @@
-//! A client whose calls go to all sides.
+//! A client whose calls are made by all sides.
 
 use super::call::{Areas, Call};
 use super::library::{Step, Value};
@@ -8,7 +8,7 @@ use lachsbrille::c::session_new;
 use second::Book;
 use std::fmt::Write;
 
-/// Both sides' areas, which start alike and have to stay so.
+/// Both sides' areas, which are equal at the start and have to stay so.
 pub struct Sides {
     library: Areas,
     second: Areas,
@@ -35,7 +35,7 @@ impl Sides {
     }
 
     /// Has both sides make the call, and gives what both gave or where they
-    /// part: in the answer, the value, an area, the table or a guard.
+    /// differ: in the answer, the value, an area, the table or a guard.
     pub fn call(&mut self, value: Value, call: &Call) -> Result<Step, String> {
         let (library, library_table) = call.by_library(value, &mut self.library)?;
         let (second, second_table) = call.by_second(value, &mut self.second);
@@ -57,13 +57,13 @@ pub struct Client {
     pub value: Value,
     pub sides: Sides,
     book: Book,
-    /// The areas' first bytes and all calls, for the report of a difference.
+    /// The areas at the start and all calls, for the report of a difference.
     start: [Vec<u8>; 2],
     calls: Vec<Call>,
 }
 
 impl Client {
-    /// The value is the library's, which the first call holds to the others'.
+    /// The value is the library's; `is_new` compares it with the others'.
     pub fn new(staging: &[u8], kept: &[u8]) -> Self {
         Client {
             value: session_new(),
@@ -106,7 +106,7 @@ impl Client {
         self.value == Value::of(session) && self.value == Value::of(&Book::new())
     }
 
-    /// The whole list, so that it can be made again.
+    /// The whole list, so that its calls can be made again.
     pub fn trace(&self) -> String {
         let [staging, kept] = &self.start;
         let mut trace = trace_of_areas(staging, kept);

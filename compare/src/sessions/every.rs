@@ -6,7 +6,7 @@ use super::fixed::Fixed;
 use crate::fixed::pool_p;
 use crate::library::ENTRY_WORDS;
 
-/// Calls of a list behind its start.
+/// How many calls a list has after its start.
 const LENGTH: u32 = 5;
 /// Bytes of both areas: room for P and some more.
 const AREA: usize = 50;

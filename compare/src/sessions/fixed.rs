@@ -8,7 +8,7 @@ use crate::realistic::realistic;
 use crate::shape::SHORTEST_RECORD;
 use second::{Kind, MAX_POOL_BYTES};
 
-/// Bytes that a closing record makes up for.
+/// Bytes that are left for a last record, which fills them.
 const FILLED: usize = 40;
 const SHORTEST_PRESENTATION: usize = 15;
 
@@ -41,12 +41,12 @@ pub fn lists(long: bool) -> Vec<Fixed> {
     lists
 }
 
-/// The records of a sound pool of the most bytes.
+/// The records of a sound pool of the greatest length.
 pub fn longest() -> Vec<Object> {
     let mut objects = realistic(MAX_POOL_BYTES - FILLED);
     let free = MAX_POOL_BYTES - pool_of(&objects).len() - SHORTEST_PRESENTATION;
     let mut last = Object::plain(Kind::Dvp, objects.len() as u16);
-    // Two bytes a character, so that a text of few characters fills much.
+    // Two bytes per character, so that few characters fill many bytes.
     last.texts[0] = ["ü".repeat(free / 2), "a".repeat(free % 2)]
         .concat()
         .into_bytes();
@@ -87,7 +87,7 @@ fn worked_line() -> Fixed {
     }
 }
 
-/// Through all calls, with refusals between.
+/// All kinds of calls, with refusals in between.
 fn many_calls() -> Fixed {
     let (p, q) = (pool_p(), pool_q());
     let piece = |bytes: &[u8]| Call::Transfer(bytes.to_vec());

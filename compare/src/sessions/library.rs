@@ -1,5 +1,5 @@
-//! The proved static library's sessions, by its bindings, and the second
-//! implementation's and the book's in the library's form.
+//! Sessions of the proved static library, through its bindings, and those of
+//! the second implementation and of the book in the library's form.
 
 pub use lachsbrille::c::{Session as Value, Step};
 
@@ -9,7 +9,7 @@ use second::{Book, Entry, Fault, Session, Stage};
 /// Given for values that can't arise.
 const IMPOSSIBLE: u32 = 27;
 
-/// A step that no call gives: a field which is not written shows.
+/// A step that no call gives, so that a field which is not written is noticed.
 pub fn unwritten() -> Step {
     let session = Value {
         announced: u32::MAX,
@@ -26,8 +26,7 @@ pub fn unwritten() -> Step {
     step(session, u32::MAX, UNWRITTEN, fault)
 }
 
-/// The library may come to give more in a step: what is not told here is as by
-/// default.
+/// Starts from the default, in case the library's step gets more fields.
 fn step(session: Value, number: u32, place: usize, fault: Fault) -> Step {
     let mut step = Step::default();
     step.session = session;
@@ -90,8 +89,8 @@ impl Of<(&Book, Entry)> for Step {
     }
 }
 
-/// The same value as the second implementation has it. A stage or active of 2
-/// and more is none there.
+/// The value in the second implementation's form, which has none for a stage or
+/// active of 2 or more.
 pub fn session_in(value: Value) -> Option<Session> {
     if value.stage > 1 || value.active > 1 {
         return None;

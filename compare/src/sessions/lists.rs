@@ -12,30 +12,31 @@ use crate::random::Random;
 use crate::shape::SHORTEST_RECORD;
 use second::{Record, MAX_POOL_BYTES};
 
-/// One list in so many sends whole pools in small pieces and is longer.
+/// One list in this many is patient: it sends whole pools in small pieces and
+/// is longer.
 const PATIENT_ONE_IN: usize = 60;
-/// Pools of patient lists are not longer.
+/// The greatest length of a patient list's pools.
 const PATIENT_BYTES: usize = 600;
 
 /// How a client cuts its pools.
 #[derive(Clone, Copy)]
 enum Pieces {
-    /// Single bytes, or pieces of 7, behind a first piece that leaves some.
+    /// Pieces of this length, after a longer one that leaves a few of them.
     Of(usize),
-    /// All pieces are of so many bytes.
+    /// All pieces have this length.
     All(usize),
     Whole,
     Any,
 }
 
-/// A list in the making: each call is drawn for the value before it.
+/// A list that is being drawn: each call depends on the value before it.
 pub struct List {
     random: Random,
     pools: Vec<Vec<u8>>,
     /// The pool that is being sent.
     sent: usize,
     pieces: Pieces,
-    /// Calls that are still due.
+    /// How many calls are still to come.
     calls: usize,
 }
 
@@ -72,7 +73,7 @@ impl List {
         (list, client)
     }
 
-    /// The next call, none when the list is over.
+    /// The next call, or `None` at the end of the list.
     pub fn next(&mut self, value: &Value, staging: &[u8], kept: &[u8]) -> Option<Call> {
         self.calls = self.calls.checked_sub(1)?;
         let patient = matches!(self.pieces, Pieces::All(_));
@@ -98,7 +99,7 @@ impl List {
     }
 
     /// Mostly a pool's length; also less, more, and sizes at and over every
-    /// limit, those too that are right once their upper bits are gone.
+    /// limit, including some that would be right without their upper bits.
     fn offer(&mut self, staging: &[u8], kept: &[u8]) -> Call {
         let random = &mut self.random;
         self.sent = random.below(self.pools.len());
@@ -119,7 +120,7 @@ impl List {
         })
     }
 
-    /// Mostly the next bytes of the pool, behind its end any.
+    /// Mostly the next bytes of the pool, and random ones after its end.
     fn transfer(&mut self, value: &Value) -> Call {
         let rest = value.announced - value.received;
         let length = self.piece_length(rest as usize);
@@ -162,8 +163,8 @@ impl List {
     }
 }
 
-/// Words of a table around what the pool needs, often just enough or more,
-/// also such that end inside an entry.
+/// How many words a table has, around what the pool needs: often just enough
+/// or more, and sometimes ending inside an entry.
 pub fn table_words(random: &mut Random, pool: &[u8]) -> usize {
     let mut table = vec![Record::default(); pool.len() / SHORTEST_RECORD];
     let needed = match second::read_pool(pool, &mut table) {
@@ -181,7 +182,7 @@ pub fn table_words(random: &mut Random, pool: &[u8]) -> usize {
     }
 }
 
-/// Half are without a fault, as only these get through.
+/// A pool; over half are without a fault, as only these are activated.
 pub fn pool(random: &mut Random) -> Vec<u8> {
     match random.below(20) {
         0..=2 => pool_p(),
@@ -191,9 +192,9 @@ pub fn pool(random: &mut Random) -> Vec<u8> {
     }
 }
 
-/// A client with areas that mostly hold all its pools, some just so. Staging
-/// starts as noise or with a pool in it, so that bytes which are taken for
-/// sent without having been show.
+/// A client with areas that mostly hold all its pools, some of them exactly.
+/// Staging starts as noise or with a pool in it, so that it is noticed if bytes
+/// are taken for sent that were not.
 fn client(random: &mut Random, pools: &[Vec<u8>]) -> Client {
     let longest = pools.iter().map(Vec::len).max().unwrap_or(0);
     let fitting = random.below(10) < 8;
@@ -222,7 +223,7 @@ fn area_length(random: &mut Random, longest: usize, fitting: bool) -> usize {
     }
 }
 
-/// Any bytes.
+/// Random bytes.
 pub fn noise(random: &mut Random, length: usize) -> Vec<u8> {
     let mut bytes = Vec::with_capacity(length + 8);
     while bytes.len() < length {
@@ -232,7 +233,7 @@ pub fn noise(random: &mut Random, length: usize) -> Vec<u8> {
     bytes
 }
 
-/// Lays as much of the pool into the area as fits.
+/// Copies as much of the pool into the area as fits.
 pub fn lay(area: &mut [u8], pool: &[u8]) {
     for (byte, &from) in area.iter_mut().zip(pool) {
         *byte = from;

@@ -26,7 +26,7 @@ use values::Single;
 /// Below the repository's root.
 const DUMP: &str = "target/compare-session.txt";
 
-/// Compares fixed lists, so many seeded ones and twice as many single calls.
+/// Compares fixed lists, `lists` seeded ones and twice as many single calls.
 pub fn compare(seed: u64, lists: u64, long: bool) -> Report {
     let mut report = Report {
         tally: Tally::new(),
@@ -92,8 +92,8 @@ impl Report {
         }
     }
 
-    /// A call of a list. After a difference the sides have nothing in common
-    /// to go on from.
+    /// Makes a call of a list. After a difference the list can't go on, as the
+    /// sides no longer have the same state.
     fn call(&mut self, name: &str, client: &mut Client, call: Call) -> Option<Step> {
         let value = client.value;
         self.list_calls += 1;
@@ -128,7 +128,7 @@ impl Report {
         }
     }
 
-    /// Counts a difference; the first is shown and what led to it kept.
+    /// Counts a difference; the first is shown and the calls up to it are kept.
     fn note(&mut self, name: &str, what: &str, trace: String) {
         self.differences += 1;
         if self.differences > 1 {

@@ -16,9 +16,9 @@ const CALLS: [&str; 6] = [
     "lost connection",
 ];
 
-/// Answers that calls can give, by what led to them. 6 is out of reach, as the
-/// most records a pool holds are 5,461. So is rule 3 as the first fault: the
-/// second device breaches rule 1 or 2 as well, or the first one rule 1.
+/// Answers that calls can give, by their causes. 6 can't occur, as a pool holds
+/// at most 5,461 records. Nor can rule 3 as the first fault: the second device
+/// breaches rule 1 or 2 as well, or the first one rule 1.
 const OFFER: &[&str] = &[
     "0 at stage none",
     "0 in place of an offer",
@@ -70,7 +70,7 @@ const ACTIVATE: &[&str] = &[
     RULES[11],
     RULES[12],
 ];
-/// First faults by their rule, which count from 1.
+/// First faults by their rules, which are numbered from 1.
 const RULES: [&str; 13] = [
     "24 without a rule",
     "24 rule 1",
@@ -88,7 +88,7 @@ const RULES: [&str; 13] = [
 ];
 const DEACTIVATE: &[&str] = &["0", "25"];
 const OTHERS: &[&str] = &["0"];
-/// Why a value can't arise; 27 in every call.
+/// Why a value can't arise; every call gives 27.
 const CAUSES: [&str; 10] = [
     "27 stage over 1",
     "27 active over 1",
@@ -124,8 +124,8 @@ impl Tally {
         }
     }
 
-    /// Counts what the call gave on this value with these areas. An answer
-    /// that the call can't give is told, though the sides agree on it.
+    /// Counts what the call gave on this value with these areas. An answer that
+    /// the call can't give is an error, even if the sides agree on it.
     pub fn count(
         &mut self,
         value: &Value,
@@ -188,7 +188,7 @@ impl Tally {
         }
     }
 
-    /// What the calls should have met and did not.
+    /// What should have occurred and did not.
     pub fn unseen(&self) -> Vec<String> {
         let mut names = Vec::new();
         for (call, name) in CALLS.iter().enumerate() {
@@ -215,8 +215,8 @@ fn index(call: &Call) -> usize {
     }
 }
 
-/// What led to the answer, judged apart from both sides as far as needed to
-/// tell the ways to one number apart.
+/// The cause of the answer, found independently of both sides as far as is
+/// needed to tell causes of the same number apart.
 fn branch(value: &Value, call: &Call, sides: &Sides, step: &Step) -> &'static str {
     let (staging, kept) = (sides.staging().len(), sides.kept().len());
     match (step.number, call) {

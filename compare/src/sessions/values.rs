@@ -1,5 +1,5 @@
-//! Single calls on values that did not come from the calls before: such as
-//! can arise, with areas of any lengths, and such as can't.
+//! Single calls on values that do not come from earlier calls: values that can
+//! arise, with areas of any lengths, and values that can't.
 
 use super::call::Call;
 use super::client::Sides;
@@ -11,9 +11,9 @@ use second::MAX_POOL_BYTES;
 /// The greatest size of a pool, as a value has it.
 const MOST: u32 = MAX_POOL_BYTES as u32;
 
-/// Areas are not longer, save for a few.
+/// The greatest length of most areas.
 const LONG_AREA: usize = 2_000;
-/// One in so many values has long areas.
+/// One value in this many may have longer areas.
 const LONG_ONE_IN: usize = 100;
 /// Ways to make a value that can't arise.
 const WAYS: usize = 9;
@@ -49,7 +49,7 @@ pub fn single(seed: u64, index: u64) -> Single {
     Single { value, call, sides }
 }
 
-/// A value that can arise, often one whose offered pool is all there.
+/// A value that can arise, often one whose offered pool has arrived in full.
 fn possible(random: &mut Random) -> (Value, Vec<u8>) {
     let pool = pool(random);
     let mut value = Value::default();
@@ -75,8 +75,8 @@ fn between(random: &mut Random, low: u32, high: u32) -> u32 {
     random.between(low as usize, high as usize) as u32
 }
 
-/// Changes the value so that it can't arise. A number too large is often
-/// right once its upper bits are gone.
+/// Changes the value so that it can't arise. A number that is too large would
+/// often be right without its upper bits.
 fn spoil(random: &mut Random, value: &mut Value) {
     let way = random.below(WAYS);
     let upper = random.pick(&[1, 2, 1 << 8, 1 << 15]) * (MOST + 1);
@@ -117,7 +117,7 @@ fn spoil(random: &mut Random, value: &mut Value) {
     }
 }
 
-/// Around what the value calls for, or any.
+/// A length around what the value needs, or any.
 fn area_length(random: &mut Random, value: &Value, long: bool) -> usize {
     let longest = if long {
         MAX_POOL_BYTES + 100

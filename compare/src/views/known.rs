@@ -1,4 +1,4 @@
-//! What the fields of a record are, where it was written from an object.
+//! The known fields of a record that was written from an object.
 
 use crate::objects::Object;
 use second::{
@@ -7,7 +7,7 @@ use second::{
 };
 use std::ops::Range;
 
-/// Whether all fields are the object's, whose record starts here.
+/// Whether all fields of the record that starts here are those of the object.
 pub fn are_of(object: &Object, pool: &[u8], start: u16) -> bool {
     let is = |place: Range<usize>, bytes: &[u8]| pool.get(place) == Some(bytes);
     let text = &object.texts[0];

@@ -1,12 +1,13 @@
-//! The fields of a record by the proved static library's bindings, and the
-//! second implementation's in the library's form.
+//! The fields of a record, read through the proved static library's bindings,
+//! and the second implementation's in the library's form.
 
 use crate::library::{Of, UNWRITTEN};
 use lachsbrille::c::{self, Device, Element, Presentation, ProcessData, Property, Span};
 use second::{DeviceView, ElementView, PresentationView, ProcessDataView, PropertyView};
 use std::ops::Range;
 
-/// What a result holds before the call: a field that is not written shows.
+/// What a result holds before the call, so that a field which is not written is
+/// noticed.
 const NO_SPAN: Span = Span {
     from: UNWRITTEN,
     to: UNWRITTEN,

@@ -16,11 +16,11 @@ use second::Kind;
 use std::collections::BTreeSet;
 use std::fmt::Debug;
 
-/// So many records of a pool are looked at, with the last one.
+/// About how many records of a pool are looked at, always with the last one.
 const RECORDS: usize = 8;
-/// So many places are drawn within a pool; one is drawn anywhere.
+/// How many places are drawn within a pool; one more is drawn anywhere.
 const DRAWN: usize = 3;
-/// Bytes of a pool that are shown where the sides part.
+/// How many bytes of a pool are shown if the sides differ.
 const SHOWN: usize = 2_000;
 
 const COLUMNS: &[&str] = &[
@@ -37,7 +37,7 @@ const COLUMNS: &[&str] = &[
 pub enum View {
     Device,
     Element,
-    /// Of an element's list.
+    /// An entry of an element's list.
     Entry(u16),
     ProcessData,
     Property,
@@ -75,8 +75,8 @@ impl View {
         }
     }
 
-    /// Has both sides read, and gives where what they read ends, or where they
-    /// part.
+    /// Has both sides read, and gives the end of what they read, or where they
+    /// differ.
     pub fn by_both(self, pool: &[u8], start: u16) -> Result<usize, String> {
         match self {
             View::Device => {
@@ -128,7 +128,7 @@ fn same<Fields: PartialEq + Debug>(
     }
 }
 
-/// All that can be read at a place, with entries around the end of the list.
+/// Everything that can be read at a place, with entries around the list's end.
 pub fn views(pool: &[u8], start: u16) -> impl Iterator<Item = View> {
     let count = second::read_element(pool, start).entries;
     let entries = BTreeSet::from([0, count / 2, count.wrapping_sub(1), count, 65_535]);
@@ -175,8 +175,8 @@ pub fn compare(report: &mut Report, input: &Input, verdict: &Verdict, pool: &Len
     }
 }
 
-/// Starts of records, the ends of the pool and of all numbers with their
-/// neighbours, and some that are drawn.
+/// Starts of records, places around both ends of the pool, the last place of
+/// all, and some that are drawn.
 fn starts(verdict: &Verdict, pool: &[u8]) -> BTreeSet<u16> {
     let records = verdict.records.iter().map(|record| record.start);
     let step = verdict.records.len().div_ceil(RECORDS).max(1);
@@ -193,7 +193,7 @@ fn starts(verdict: &Verdict, pool: &[u8]) -> BTreeSet<u16> {
     starts
 }
 
-/// What stands at the place, where what was read ends there.
+/// What is at the place `start`, given where the fields that were read end.
 fn column(view: View, verdict: &Verdict, pool: &[u8], start: u16, end: usize) -> &'static str {
     let record = verdict.records.iter().find(|it| it.start == start);
     match record {

@@ -72,7 +72,7 @@ fn replay(inputs: &[Vec<u8>]) -> bool {
     differences == 0
 }
 
-/// Nothing that was never called can rot unseen.
+/// Whether the inputs have calls of all groups, so that none goes untested.
 fn has_all_groups(inputs: &[Vec<u8>]) -> bool {
     let has = |group: &Group| inputs.iter().any(|it| Group::of(it) == *group);
     GROUPS.iter().all(has)

@@ -13,7 +13,7 @@ const PAIR_BYTES: usize = 5;
 /// The first byte of the fields in an input that is written, and of the pairs.
 const FIELDS_AT: usize = 10;
 const PAIRS_AT: usize = FIELDS_AT + 30;
-/// One change in so many is to the upper bits of the layout.
+/// One change in this many is to the upper bits of the layout.
 const WIDE_ONE_IN: usize = 40;
 const TIMES: [i32; 4] = [0, 86_399_999, 86_400_000, -1];
 const PLACES: [i32; 8] = [
@@ -27,8 +27,8 @@ const PLACES: [i32; 8] = [
     -1_800_000_001,
 ];
 
-/// Of a log to be read; a record more, a field at its limit, a mark more or
-/// less with its bytes.
+/// Changes a log to be read: one more record, a field at its limit, a mark more
+/// or less with its bytes.
 pub fn mutate_read(random: &mut Random, input: &mut Vec<u8>) -> bool {
     if input.len() < RECORD_AT {
         return false;
@@ -44,7 +44,7 @@ pub fn mutate_read(random: &mut Random, input: &mut Vec<u8>) -> bool {
         }
         2 => put(input, LAYOUT_AT, &flipped(random, layout).to_le_bytes()),
         3 => {
-            // A record of zeros behind the others.
+            // A record of zeros after the others.
             let pairs = random.pick(&[0, 0, 1, 3, 17]);
             let start = input.len();
             input.resize(start + count_at - RECORD_AT, 0);
@@ -52,7 +52,7 @@ pub fn mutate_read(random: &mut Random, input: &mut Vec<u8>) -> bool {
             input.resize(input.len() + PAIR_BYTES * pairs, 0);
         }
         4 => {
-            // A pair more in the first record.
+            // One more pair in the first record.
             if let Some(&count @ ..=254) = input.get(count_at) {
                 let ordinal = edge(random, word(input, LOGGED_AT));
                 input[count_at] = count + 1;
@@ -71,7 +71,7 @@ pub fn mutate_read(random: &mut Random, input: &mut Vec<u8>) -> bool {
     true
 }
 
-/// Of a record to be written.
+/// Changes a record to be written.
 pub fn mutate_written(random: &mut Random, input: &mut Vec<u8>) -> bool {
     if input.len() < PAIRS_AT {
         input.resize(PAIRS_AT, 0);

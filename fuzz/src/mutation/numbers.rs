@@ -1,5 +1,5 @@
-//! Changes to messages and to displayed values: these take few ways through
-//! the library, so that coverage alone leads to few inputs.
+//! Changes to messages and to displayed values: these take few paths through
+//! the library, so coverage alone leads to few inputs.
 
 use super::put;
 use compare::objects::{GREATEST_SCALE, LEAST_SCALE};

@@ -9,7 +9,7 @@ use compare::shape::{KINDS, SHORTEST_RECORD};
 use second::{read_pool, Kind, Record};
 
 const ID: usize = 3;
-/// In process data and properties.
+/// Where the DDI is in process data and properties.
 const DDI: usize = 5;
 const TYPE: usize = 5;
 const SCALE: usize = 9;
@@ -23,7 +23,7 @@ const SCALES: [u32; 6] = [
     0x8000_0000,
 ];
 
-/// The pool with a change to its records or to the arguments before it; none
+/// The pool with a change to its records or to the arguments before it; `None`
 /// if it has no whole record.
 pub fn mutate(random: &mut Random, arguments: &mut [u8], pool: &[u8]) -> Option<Vec<u8>> {
     let (mut records, tail) = divide(pool)?;
@@ -75,7 +75,7 @@ impl Whole {
         put(&mut self.bytes, at, &word.to_le_bytes());
     }
 
-    /// Where the length of the designator or unit text stands.
+    /// Where the length of the designator or unit text is.
     fn text_at(&self) -> usize {
         match self.kind {
             Kind::Dvc => 5,
@@ -86,14 +86,15 @@ impl Whole {
         }
     }
 
-    /// An earlier change may have the length say more than there is.
+    /// Where the text ends. After an earlier change, its length byte may say
+    /// more than there is.
     fn behind_text(&self) -> usize {
         let at = self.text_at();
         let behind = at + 1 + usize::from(self.bytes[at]);
         behind.min(self.bytes.len())
     }
 
-    /// Entries of a device element that are there.
+    /// How many entries of a device element's list are there.
     fn entries(&self) -> usize {
         let list = self.behind_text() + 6;
         let stated = usize::from(self.word(list - 2));
@@ -101,12 +102,12 @@ impl Whole {
     }
 }
 
-/// The whole records that a pool starts with, and what is left behind them.
+/// The whole records that a pool starts with, and what is left after them.
 fn divide(pool: &[u8]) -> Option<(Vec<Whole>, &[u8])> {
     let mut table = vec![Record::default(); pool.len() / SHORTEST_RECORD + 1];
     let (count, end) = match read_pool(pool, &mut table) {
         Ok(count) => (count, pool.len()),
-        // A record that is none, or cut.
+        // Not a record, or a cut one.
         Err(refusal) if matches!(refusal.number, 3 | 4) => {
             let whole = &pool[..refusal.place];
             (read_pool(whole, &mut table).ok()?, refusal.place)
@@ -155,8 +156,8 @@ fn change(random: &mut Random, records: &mut Vec<Whole>) {
     }
 }
 
-/// An ID of the pool or next to one, or one at an end or where lists of links
-/// begin to be longer.
+/// An ID of the pool or next to one, or one at an end of the range or where the
+/// library's linked lists begin to be longer.
 fn any_id(random: &mut Random, records: &[Whole]) -> u16 {
     let carried = records[random.below(records.len())].word(ID);
     let edge = random.pick(&[0, 1, 511, 512, 2_047, 2_048, 8_191, 8_192, 65_534, 65_535]);
@@ -168,7 +169,7 @@ fn change_text(random: &mut Random, record: &mut Whole) {
     let at = record.text_at();
     let end = record.behind_text();
     if random.one_in(8) {
-        // The length alone: what follows is read otherwise.
+        // Only the length, so that what follows is read differently.
         record.bytes[at] = random.pick(&LENGTHS);
         return;
     }
@@ -179,7 +180,7 @@ fn change_text(random: &mut Random, record: &mut Whole) {
     record.bytes.splice(at + 1..end, text);
 }
 
-/// Has the record name this ID, by its parent, presentation or an entry.
+/// Makes the record name this ID, by its parent, presentation or an entry.
 fn refer(random: &mut Random, record: &mut Whole, id: u16) {
     let behind = record.behind_text();
     match record.kind {

@@ -4,12 +4,12 @@ use crate::pool_at;
 use crate::sessions::{CALL_BYTES, LIST_START, MOST_CALLS};
 use compare::random::Random;
 
-/// Behind the group and what goes before the calls, of which their count is
-/// last.
+/// Where the calls begin: after the group and the list's first bytes, the last
+/// of which is the count of calls.
 const CALLS_AT: usize = 1 + LIST_START;
 const COUNT_AT: usize = LIST_START;
-/// Calls that get somewhere: the whole pool offered, all of it or a part sent,
-/// activated with a table that just does or is too short.
+/// Calls that lead further: the whole pool offered, all of it or a part sent,
+/// activated with a table that just suffices or is too short.
 const CALLS: [[u8; CALL_BYTES]; 11] = [
     [0, 0, 0, 0],
     [0, 0xFF, 0xFF, 0],

@@ -3,7 +3,7 @@
 use compare::random::Random;
 
 /// Characters of every length, at the ends of their ranges, and bytes that are
-/// none: overlong, halves of a pair, beyond the last, cut, the mark.
+/// no characters: overlong, surrogates, beyond the last, cut; and the mark.
 const PARTS: [&[u8]; 22] = [
     b"a",
     b"\x7F",

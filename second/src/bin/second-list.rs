@@ -4,8 +4,8 @@ use std::io::{self, Read, Write};
 
 fn main() -> io::Result<()> {
     let mut pool = Vec::new();
-    // One byte over the limit decides the refusal: input without end is not
-    // read to its end.
+    // One byte over the limit is enough to refuse the pool, so endless input
+    // is not read any further.
     let bound = second::MAX_POOL_BYTES as u64 + 1;
     io::stdin().lock().take(bound).read_to_end(&mut pool)?;
     io::stdout()

@@ -1,9 +1,9 @@
-//! Lent memory: what is written and what stays.
+//! Lent memory: what is written and what stays as it was.
 
 use crate::pools::{after_device, all_faults, faults, pool, pool_p, pool_q, table_for, Det, Dpd};
 use second::{check, read_pool, Fault, Kind, Record, Refusal};
 
-/// Tell entries that were never written.
+/// Entries that were never written.
 const UNTOUCHED: Fault = Fault {
     record: 0xA5A5,
     rule: 0x5A,
@@ -124,7 +124,7 @@ fn the_most_records_are_checked() {
     }
     assert!(pool.len() > 65_535 - 12 && pool.len() <= 65_535);
     assert!(faults(&pool).is_empty());
-    // Now the last two are the same.
+    // Now the last two IDs are the same.
     let at = pool.len() - 12 + 3;
     pool[at] -= 1;
     assert_eq!(faults(&pool), [(count + 2, 2, 1)]);

@@ -2,7 +2,7 @@
 
 use crate::pools::{faults, pool, Bytes, Det, Dpd, Dvc};
 
-/// Device elements with these IDs and parents behind a device; the first one
+/// A device and device elements with these IDs and parents; the first element
 /// is record 2 and the root.
 fn elements(ids_and_parents: &[(u16, u16)]) -> Vec<u8> {
     let mut pool = pool(&[&Dvc::default()]);

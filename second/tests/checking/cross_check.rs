@@ -77,7 +77,7 @@ impl Maker {
         }
     }
 
-    /// One of the usual values, now and then one of the others.
+    /// One of the usual values, sometimes one of the others.
     fn mostly<T: Copy>(&mut self, usual: &[T], others: &[T]) -> T {
         let rare = self.random.one_in(8);
         self.random.pick(if rare { others } else { usual })
@@ -190,7 +190,7 @@ fn random_small_pools() {
             .iter()
             .for_each(|fault| breached[usize::from(fault.rule)] += 1);
     }
-    // The pools are no test of a rule that they seldom breach.
+    // Pools that seldom breach a rule would not test it.
     assert!(breached[1..].iter().all(|&count| count > 1_000));
 }
 

@@ -146,7 +146,7 @@ fn element_numbers_over_4095_are_compared_whole() {
     };
     let found = faults_after_device(&[&element(2, 4_096), &element(3, 4_096)]);
     assert_eq!(found, [(3, 5, 2), (4, 5, 2), (4, 8, 1)]);
-    // In their low twelve bits they would be 0, as the first element is.
+    // In its low twelve bits 8,192 would be 0, the first element's number.
     let found = faults_after_device(&[&element(2, 8_192), &element(3, 65_535)]);
     assert_eq!(found, [(3, 5, 2), (4, 5, 2)]);
 }

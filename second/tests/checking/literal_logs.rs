@@ -1,5 +1,5 @@
-//! Time logs byte by byte and value by value, without regard to speed, and the
-//! fast functions against that.
+//! Time logs byte by byte and value by value, without regard to speed; the fast
+//! functions are compared with this.
 
 use crate::cross_check::Random;
 use second::{read_log, read_record, write_record, LogFields, LogRecord, LogRefusal};
@@ -266,7 +266,7 @@ impl Maker {
     }
 }
 
-/// Any layout; a third of them is in range once its upper half is gone.
+/// Any layout; a third of them would be in range without their upper half.
 fn any_layout(random: &mut Random) -> u32 {
     let any = random.draw() as u32;
     random.pick(&[any, any % 0x1_0000, 0x1_0000 | (any % 512)])
@@ -305,7 +305,7 @@ fn random_records_are_read_alike() {
         assert_eq!(values, expected_values, "record {index}");
         tally(&mut tallies, &read);
     }
-    // No input is a test of a refusal that never comes.
+    // A refusal that is never given would not be tested.
     assert!(tallies[0] > 5_000 && tallies[40..48].iter().all(|&count| count > 100));
 }
 

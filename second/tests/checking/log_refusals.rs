@@ -1,15 +1,15 @@
-//! Refusals of time logs: which of several comes, what room they ask for, and
-//! where in a log they are. What is lent stays as it was.
+//! Refusals of time logs: which of several is given, how much room is needed,
+//! and where in a log they are. Lent memory stays as it was.
 
 use crate::literal_logs::encode;
 use crate::logs::{entries, head_bytes, written, Lent, ALL, BAD_FIELDS, COUNTS, FIELDS};
 use second::{read_log, write_record, LogFields, LogRefusal};
 
-/// The refusals of each call, the one that goes before the others first.
+/// The refusals of each call, in the order of precedence.
 const READING: [u8; 8] = [47, 40, 41, 42, 43, 44, 45, 46];
 const WRITING: [u8; 8] = [47, 48, 41, 42, 43, 44, 45, 46];
 
-/// Every choice from the refusals, with the one that is expected; 0 for none.
+/// Every subset of the refusals, with the one that is expected; 0 for none.
 fn choices(refusals: [u8; 8]) -> impl Iterator<Item = (Vec<u8>, u8)> {
     (0..256).map(move |choice| {
         let chosen = (0..8).filter(|bit| choice >> bit & 1 == 1);
@@ -19,7 +19,7 @@ fn choices(refusals: [u8; 8]) -> impl Iterator<Item = (Vec<u8>, u8)> {
     })
 }
 
-/// Fields that call for some of 41 to 44.
+/// Fields that cause the chosen ones of the refusals 41 to 44.
 fn fields_for(chosen: &[u8]) -> LogFields {
     let mut fields = FIELDS;
     for number in chosen {
@@ -69,7 +69,7 @@ fn refusals_to_write_come_in_order() {
         let fields = fields_for(&chosen);
         for (count, shorter) in [(1, 0), (20, 19), (256, 256)] {
             let fits = if calls_for(48) { shorter } else { count };
-            // The last count is refused although both lists are as long.
+            // The last count is refused although both lists are long enough.
             let count = if calls_for(48) { count } else { count.min(255) };
             for (ordinals, values) in [(fits, fits), (fits, 300), (300, fits)] {
                 let (ordinals, values) = (vec![6; ordinals], vec![-1; values]);

@@ -10,7 +10,7 @@ const VECTOR: &str = include_str!("../../../vectors/log-000-d49.hex");
 /// North, east and status.
 const VECTOR_LAYOUT: u32 = 0x00B;
 pub const ALL: u32 = 0x1FF;
-/// Sizes of records around what may be looked at together.
+/// Counts of values around the numbers that may be looked at together.
 pub const COUNTS: [usize; 14] = [0, 1, 2, 3, 7, 8, 15, 16, 17, 31, 32, 33, 254, 255];
 
 /// Fields that show where each byte goes and which number has a sign.
@@ -27,7 +27,7 @@ pub const FIELDS: LogFields = LogFields {
     gps_time: 0xF819_1A1B,
     gps_date: 0xFC1D,
 };
-/// Nothing with a limit is within it.
+/// Fields that are all beyond their limits, if they have one.
 pub const BAD_FIELDS: LogFields = LogFields {
     time: 86_400_000,
     north: 900_000_001,
@@ -186,7 +186,7 @@ fn every_byte_has_its_place() {
     assert_eq!(to, expected.concat());
 }
 
-/// What is written is what is read, whatever comes behind it.
+/// What is written is what is read, whatever comes after it.
 #[test]
 fn round_trips_over_every_layout() {
     for layout in 0..512 {
@@ -291,7 +291,7 @@ fn every_limit_is_exact() {
     }
 }
 
-/// One ordinal, wherever it stands, decides; those behind the record do not.
+/// One ordinal decides, wherever it is; bytes after the record do not matter.
 #[test]
 fn ordinals_are_below_the_count_of_log_values() {
     for count in COUNTS.into_iter().filter(|&count| count > 0) {

@@ -1,14 +1,14 @@
-//! Process data messages, by the test vectors and by what every field can be.
+//! Process data messages, by the test vectors and with all that a field can be.
 
 use second::{read_message, write_acknowledge, write_value, Message};
 use std::collections::HashMap;
 
 const VECTORS: &str = include_str!("../../../vectors/messages.txt");
 const COMMANDS: [u32; 8] = [2, 3, 4, 5, 6, 7, 8, 10];
-/// In their lowest 12 bits these are 0: cut to fewer they would be in range.
+/// The lowest 12 bits of these are 0: cut to fewer bits they would be in range.
 const TOO_WIDE: [u32; 4] = [1 << 12, 1 << 16, 1 << 24, 1 << 31];
 
-/// Lines with their bytes, where they stand and what is expected.
+/// The lines to be read: their bytes and what is expected.
 fn read_lines() -> Vec<(Vec<u8>, &'static str)> {
     let lines = VECTORS.lines().filter(|line| !line.starts_with('#'));
     lines
@@ -57,7 +57,7 @@ fn described(result: Result<Message, u8>) -> String {
     }
 }
 
-/// Writes what a line asks for, with as many bytes lent.
+/// Writes what a line asks for into the lent bytes.
 fn write(line: &str, to: &mut [u8]) -> Result<(), u8> {
     let fields = fields(line);
     let (element, ddi) = (fields["elem"] as u32, fields["ddi"] as u16);

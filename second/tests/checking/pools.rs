@@ -60,7 +60,7 @@ impl Det<'_> {
     }
 }
 
-/// A function (type 2). Beside the root it needs an ID and a number of its own.
+/// A function (type 2). Next to the root it needs an ID and number of its own.
 impl Default for Det<'_> {
     fn default() -> Self {
         Det {

@@ -68,7 +68,8 @@ fn labels_with_an_extended_label_of_each_length() {
     }
 }
 
-/// The refusal of both queries, which leaves a table of two entries so.
+/// Asserts that both queries are refused, and gives the table of two entries
+/// that they leave.
 fn refusals(pool: &[u8], expected: u8) -> [Record; 2] {
     let mut tables = [[UNTOUCHED; 2]; 2];
     assert_eq!(text(pool, &mut tables[0], 0), Err(expected));

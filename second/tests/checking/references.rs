@@ -28,7 +28,7 @@ impl Targets {
         }
     }
 
-    /// The faults of a record, as number 3 before the targets.
+    /// The faults of a record, which is number 3, before the targets.
     fn faults(&self, record: &dyn Bytes) -> Vec<(u16, u8, u16)> {
         faults_after_device(&[
             record,
@@ -187,7 +187,7 @@ fn a_record_that_breaches_rule_1_is_named_like_others() {
         entries: &[0],
         ..Det::root()
     };
-    // Here 0 names the process data, which is no parent.
+    // Here 0 names the process data, which cannot be a parent.
     let found = faults(&pool(&[&data, &Dvc::default(), &element]));
     assert_eq!(found, [(1, 1, 1), (2, 2, 1), (3, 7, 1)]);
 }

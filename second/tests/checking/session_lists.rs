@@ -68,7 +68,8 @@ impl Client {
         self.agreed(self.session.lost(), entry)
     }
 
-    /// The answer, which is the book's too, as are fields and areas.
+    /// The answer, after asserting that the book agrees on it, on the fields
+    /// and on the areas.
     fn agreed(&mut self, step: second::Step, entry: Entry) -> Answer {
         let second::Answer {
             number,
@@ -164,7 +165,7 @@ fn a_list_of_many_calls() {
     assert_eq!(client.fields(), (false, 0, 0, 71, true));
     assert_eq!(client.kept[..71], q);
 
-    // The kept pool is left by what comes between, and replaced by P.
+    // The kept pool survives the calls in between, and is replaced by P.
     assert_eq!(client.deactivate(), DONE);
     assert_eq!(client.activate(0), DONE);
     assert_eq!(client.activate(0), DONE);

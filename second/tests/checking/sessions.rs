@@ -33,7 +33,7 @@ fn done(session: Session) -> Step {
     Step { session, answer }
 }
 
-/// The value stays, and the answer is its number with zeros.
+/// The value is unchanged, and the answer is the number with zeros.
 fn refused(session: Session, number: u8) -> Step {
     let answer = Answer {
         number,

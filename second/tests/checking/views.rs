@@ -1,4 +1,4 @@
-//! The fields of a record by a pool and a start.
+//! The fields of a record, given a pool and a start.
 
 use crate::pools::{pool_of_all_kinds, pool_q, table_for};
 use second::{
@@ -48,7 +48,7 @@ fn fields_stand_where_annex_a_has_them() {
     assert_eq!(RECORDS[element.designator], *b"kl");
     assert_eq!(read_entry(RECORDS, ELEMENT, 0), 0x0B0A);
     assert_eq!(read_entry(RECORDS, ELEMENT, 1), 0x0D0C);
-    // Behind its list the next record begins.
+    // After its list the next record begins.
     let next = u16::from_le_bytes(*b"DP");
     assert_eq!(read_entry(RECORDS, ELEMENT, 2), next);
 

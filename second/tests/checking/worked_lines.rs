@@ -1,4 +1,4 @@
-//! The worked lines that checking settles.
+//! The worked lines that are about checking.
 
 use crate::pools::{faults, pool_p, pool_q};
 use second::{check, Fault, Record, Refusal};

@@ -1,4 +1,4 @@
-//! The time a byte against the size.
+//! The time per byte against the size.
 
 use super::scale::Scale;
 use super::svg::Picture;
@@ -54,7 +54,7 @@ fn draw_chart(picture: &mut Picture, growth: &Growth, left: f64, top: f64) {
     draw_side("second", Size::second);
 }
 
-/// A tick without the last bits that multiplying leaves.
+/// A tick's name without rounding errors from multiplying.
 fn short(tick: f64) -> String {
     let rounded = format!("{tick:.3}");
     let short = rounded.trim_end_matches('0').trim_end_matches('.');

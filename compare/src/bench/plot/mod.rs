@@ -17,7 +17,7 @@ const RATIOS: &str = "Ratio of times, library/second; logarithmic. Left of 1 the
                       faster. Dot: best of the rounds; stroke: their median.";
 const GROWTH: &str = "Nanoseconds a byte of a sound pool; level is linear. Whole lines: best of \
                       the rounds; dashed: their median.";
-/// The sides with their names and where these stand.
+/// The sides with their names, and where the names are drawn.
 const KEY: [(&str, &str, f64); 2] = [
     ("library", "library", 600.0),
     ("second", "second implementation", 690.0),
@@ -86,7 +86,7 @@ mod tests {
         draw(&groups, &[growth("reading"), growth("checking")])
     }
 
-    /// What stands between marks, if all elements are closed in turn, all
+    /// The texts between tags, if all elements are closed in order, all
     /// attributes quoted and all other text escaped.
     fn texts(svg: &str) -> Result<Vec<&str>, String> {
         let (mut open, mut texts) = (Vec::new(), Vec::new());

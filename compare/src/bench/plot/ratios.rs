@@ -5,18 +5,18 @@ use super::svg::Picture;
 use crate::bench::table::Group;
 use crate::bench::times::Times;
 
-/// Where rows have their names' ends, their bars and their figures' ends.
+/// Where in a row its name ends, its bar is drawn and its figures end.
 const NAMES: f64 = 280.0;
 const BARS: (f64, f64) = (300.0, 745.0);
 const FIGURES: f64 = 850.0;
 const ROW: f64 = 16.0;
-/// What a group's name takes above its rows.
+/// The height of a group's name above its rows.
 const HEAD: f64 = 24.0;
 const BAR: f64 = 9.0;
-/// From a line's middle down to where its text stands.
+/// From a line's middle down to the baseline of its text.
 const BASELINE: f64 = 4.0;
 
-/// Draws from this height down, and gives the height where it ends.
+/// Draws the chart from this height down, and gives the height where it ends.
 pub fn draw(picture: &mut Picture, groups: &[Group], top: f64) -> f64 {
     let ratios = groups
         .iter()

@@ -1,4 +1,4 @@
-//! From values to places in a picture.
+//! Maps values to places in a picture.
 
 /// A scale whose ends are ticks.
 pub struct Scale {
@@ -62,7 +62,7 @@ impl Scale {
     }
 }
 
-/// A power of ten as the nearest number, which a tick's name shows exactly.
+/// The number nearest to a power of ten, so that a tick's name is exact.
 fn decade(power: i32) -> f64 {
     format!("1e{power}").parse().expect("this is a number")
 }

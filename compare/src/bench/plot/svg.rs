@@ -2,9 +2,9 @@
 
 use std::fmt::Write;
 
-/// Light, and dark where the reader's pages are. The picture brings its own
-/// ground, so that it can be read on any. Rules that take a colour away come
-/// last, behind those of either.
+/// Light colours, or dark ones if the reader prefers these. The picture has its
+/// own background, so that it can be read on any page. Rules that remove a
+/// colour come last, after those of both schemes.
 const STYLE: &str = "
   text { font-family: sans-serif; font-size: 12px; fill: #24292f; }
   .title { font-size: 15px; font-weight: bold; }
@@ -37,7 +37,7 @@ const STYLE: &str = "
   .dashed { stroke-dasharray: 5 4; }
 ";
 
-/// A place, to the right and down.
+/// A place: how far to the right, and how far down.
 pub type Place = (f64, f64);
 
 /// A picture as it is drawn, from back to front. Classes say how things look.
@@ -66,7 +66,7 @@ impl Picture {
         ));
     }
 
-    /// A bar along a line to the right, so thick.
+    /// A horizontal bar of this thickness.
     pub fn bar(&mut self, (x1, y): Place, x2: f64, thick: f64, class: &str) {
         let (left, width, top) = (x1.min(x2), (x2 - x1).abs(), y - thick / 2.0);
         self.push(format!(
@@ -82,7 +82,7 @@ impl Picture {
         ));
     }
 
-    /// The whole file, on a ground of this size.
+    /// The whole file, on a background of this size.
     pub fn finish(self, width: f64, height: f64, title: &str) -> String {
         format!(
             "<svg xmlns=\"http://www.w3.org/2000/svg\" viewBox=\"0 0 {width:.0} {height:.0}\" \
