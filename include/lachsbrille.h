@@ -188,7 +188,7 @@ typedef struct lachsbrille_record {
     uint16_t length;
     uint16_t kind;   /**< enum lachsbrille_kind */
     uint16_t id;
-    uint16_t parent; /**< a device element's parent ID as it stands in the pool, even if it names no record; else LACHSBRILLE_NO_ID */
+    uint16_t parent; /**< a device element's parent ID as it stands in the pool, whatever it names; LACHSBRILLE_NO_ID for other kinds */
 } lachsbrille_record;
 
 /** The labels of a device. */
@@ -215,9 +215,9 @@ uint32_t lachsbrille_read(const uint8_t *pool, size_t pool_length,
 /**
  * Checks a pool against the rule table. docs/REFUSALS.md has the rules and their items.
  *
- * The fault buffer is words, five for each fault: record, rule, item, and the ID and parent of that record, as its table entry has
- * them. For the whole pool the record is 0, and ID and parent are LACHSBRILLE_NO_ID. The buffer's length counts words, so it has room
- * for length / LACHSBRILLE_FAULT_WORDS faults.
+ * The fault buffer is words, five for each fault: record, rule, item, and the ID and parent of that record as its table entry has them,
+ * also where they are what is wrong. For the whole pool the record is 0, and ID and parent are LACHSBRILLE_NO_ID. The buffer's length
+ * counts words, so it has room for length / LACHSBRILLE_FAULT_WORDS faults.
  *
  * 0: `value` is the full count of faults; a pool is accepted if it is 0. The buffer starts with the faults in the order of
  * record, rule and item, as many whole ones as fit; its other words are left as they were, also up to four at its end that are too

@@ -36,8 +36,8 @@ impl Record {
         }
     }
 
-    /// A device element's parent ID as it stands in the pool, even if it is
-    /// 65,535 or names no record; `None` for kinds without a parent.
+    /// A device element's parent ID as it stands in the pool, whatever it names
+    /// and even if it is [`NO_ID`]; `None` for kinds without a parent.
     pub fn parent(&self) -> Option<u16> {
         (self.kind() == Some(Kind::DeviceElement)).then_some(self.parent)
     }

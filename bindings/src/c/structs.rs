@@ -12,8 +12,8 @@ pub struct Record {
     /// 1 DVC, 2 DET, 3 DPD, 4 DPT, 5 DVP.
     pub kind: u16,
     pub id: u16,
-    /// A device element's parent ID as it stands in the pool, even if it names
-    /// no record; 65,535 for other kinds.
+    /// A device element's parent ID as it stands in the pool, whatever it
+    /// names; 65,535 for other kinds.
     pub parent: u16,
 }
 
