@@ -121,6 +121,8 @@ fn versions_are_the_same() {
 fn words_are_the_same() {
     let words = enumerators("lachsbrille_size")["LACHSBRILLE_FAULT_WORDS"];
     assert_eq!(Fault::WORDS as i64, words);
+    let width = format!("pub const WIDTH: usize = {words};");
+    assert!(read("crates/faults/src/lib.rt").contains(&width));
     assert_eq!(
         mem::size_of::<Fault>(),
         Fault::WORDS * mem::size_of::<u16>()
