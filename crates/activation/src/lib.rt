@@ -82,7 +82,7 @@ fn settle(s: Session, p: &[u8], kept: &mut [u8], room: usize, starts: &mut [u16]
     requires { ⌜ (1 ≤ length (now p)) × (length (now p) ≤ 65535) × (length (now p) ≤ length (now kept)) × Reaches (now starts) (now p) ⌝ }
     ensures { λ r. ⌜ (stepOf (r .step) ≡ settled s (now (p .entry)) room) × (now (kept .exit) ≡ keptSettled (now (p .entry)) room (now (kept .entry))) × (r .records ≡ countOf (now (p .entry)) room) × Listed (now (p .entry)) room (now (starts .exit)) ⌝ }
 {
-    let mut first = [0u16; 3];
+    let mut first = [0u16; faults::WIDTH];
     let verdict = checker::check_by(p, room, starts, &mut first);
     let records = checker::records_of(verdict);
     let number = checker::number_of(verdict);
@@ -100,6 +100,8 @@ fn settle(s: Session, p: &[u8], kept: &mut [u8], room: usize, starts: &mut [u16]
             record: first[0],
             rule: first[1],
             item: first[2],
+            id: first[3],
+            parent: first[4],
         };
         return filling(session::refuse(session::end_stage(s), answer), records);
     }

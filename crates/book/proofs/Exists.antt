@@ -12,7 +12,7 @@ use Rattle.pool.specs.Reading.{Scan, records, refused, counted, scanOf, readOf}
 use Rattle.pool.proofs.Steps.{Refusal, unmarked, cut, over, Proper, scan-proper}
 use Rattle.pool.proofs.Judged.{read-walk}
 use Rattle.rules.specs.Table.{breachesOf}
-use Rattle.checker.specs.Checking.{checkOf}
+use Rattle.checker.specs.Checking.{checkOf, reported}
 use Rattle.session.specs.Answers.{replyOf}
 use Rattle.session.specs.Calls as S
 use Rattle.activation.specs.Activating as Act
@@ -70,7 +70,7 @@ shape-checked p room some few = rw (read-walk p room some few) (shape-picked (le
 real-decided : (s : Session) (p : List ℕ) (a : Answer) → Shape a → Real (Act.decided s p a)
 real-decided s p a (shape-read n) =
     either (not (eqb n 0))
-    (λ e. record { step = record { session = S.ended s; answer = Faulty (Act.firstIn (breachesOf p) .number) (Act.firstIn (breachesOf p) .rule) (Act.firstIn (breachesOf p) .item) }; tells = refl })
+    (λ e. record { step = record { session = S.ended s; answer = Faulty (Act.firstIn (reported p) .fault .number) (Act.firstIn (reported p) .fault .rule) (Act.firstIn (reported p) .fault .item) (Act.firstIn (reported p) .id) (Act.firstIn (reported p) .parent) }; tells = refl })
     (λ e. record { step = record { session = record { announced = 0; received = 0; kept = length p; stage = 0; active = 1 }; answer = Done }; tells = refl })
 real-decided s p a (shape-mark at) = record { step = record { session = S.ended s; answer = NoMark at }; tells = refl }
 real-decided s p a (shape-cut at) = record { step = record { session = S.ended s; answer = Cut at }; tells = refl }

@@ -10,9 +10,8 @@ use lib.ListN.{length, take, drop, length-append}
 use lib.Seq.{sets, sets-eq, length-sets, take-append-seam}
 use Rattle.pool.specs.Answer.{Answer}
 use Rattle.working_table.specs.declared.Record.{Record}
-use Rattle.faults.specs.Faults.{Fault}
-use Rattle.rules.specs.Table.{breachesOf}
-use Rattle.checker.specs.Checking.{checkOf}
+use Rattle.faults.specs.Faults.{FaultEntry}
+use Rattle.checker.specs.Checking.{checkOf, reported}
 use Rattle.session.specs.Answers.{Reply, replyOf}
 use Rattle.session.specs.Calls as S
 use Rattle.activation.specs.Activating as Act
@@ -29,7 +28,7 @@ pub record Ok (ls lk : ℕ) (t : S.Told) (m : Noted) (st k : List ℕ) : Type 0 
   pub session : t .session ≡ sessionOf (m .book)
   pub good : Good ls lk (m .book) st k
 
-same-first : (fs : List Fault) → Act.firstIn fs ≡ firstIn fs
+same-first : (fs : List FaultEntry) → Act.firstIn fs ≡ firstIn fs
 same-first [] = refl
 same-first (f ∷ fs) = refl
 
@@ -138,7 +137,7 @@ module _ (ls lk : ℕ) (b : Book) (st k : List ℕ) (g : Good ls lk b st k) wher
       let seven : eqb (a .number) 7 ≡ false = ne-eqb (a .number) 7 (λ (z : a .number ≡ 7). let y = eqb-true (a .number) 0 e0 in omega arith) in
       by-case (eqb (a .value) 0)
       (λ e1. simp (seven, e0, e1) (record { said = refl; session = refl; good = kept-good o q }))
-      (λ e1. simp (seven, e0, e1, same-first (breachesOf (b .arrived))) (record { said = refl; session = refl; good = over-good ls lk b st k g })))
+      (λ e1. simp (seven, e0, e1, same-first (reported (b .arrived))) (record { said = refl; session = refl; good = over-good ls lk b st k g })))
       (λ e0.
       by-case (eqb (a .number) 7)
       (λ e1. simp (e0, e1) (record { said = refl; session = rw o; good = g }))

@@ -13,9 +13,7 @@ use lib.Seq.{sets, sets-eq}
 use Rattle.wire.proofs.Either.{by-case}
 use Rattle.pool.specs.Answer.{Answer}
 use Rattle.working_table.specs.declared.Record.{Record}
-use Rattle.faults.specs.Faults.{fault}
-use Rattle.rules.specs.Table.{breachesOf}
-use Rattle.checker.specs.Checking.{checkOf}
+use Rattle.checker.specs.Checking.{checkOf, reported}
 use Rattle.session.specs.Calls as S
 use Rattle.activation.specs.Activating as Act
 use Rattle.activation.proofs.Settled.{check-low}
@@ -68,7 +66,7 @@ module _ (ls lk : ℕ) (b : Book) (st k : List ℕ) (g : Good ls lk b st k) wher
       by-case (eqb (a .number) 0)
       (λ e0. by-case (eqb (a .value) 0)
       (λ e1. simp (e0, e1) (rw (laid-over (b .arrived) k room) (won t o refl)))
-      (λ e1. simp (e0, e1) (stays (activate t) (record { number = 24; place = 0; first = firstIn (breachesOf (b .arrived)) }) (λ u v w z. omega arith) refl)))
+      (λ e1. simp (e0, e1) (stays (activate t) (record { number = 24; place = 0; first = firstIn (reported (b .arrived)) }) (λ u v w z. omega arith) refl)))
       (λ e0.
       let high : a .number ≡ 0 → ⊥ = λ (z : a .number ≡ 0). true≢false (sym (eq-zero z) ∙ e0) in
       by-case (eqb (a .number) 7)

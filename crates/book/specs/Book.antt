@@ -9,9 +9,8 @@ use lib.ListN.{length}
 use Rattle.pool.specs.Answer.{Answer}
 use Rattle.working_table.specs.declared.Record.{Record}
 use Rattle.working_table.specs.Table.{recordsAfter}
-use Rattle.faults.specs.Faults.{Fault, fault}
-use Rattle.rules.specs.Table.{breachesOf}
-use Rattle.checker.specs.Checking.{checkOf}
+use Rattle.faults.specs.Faults.{FaultEntry, noFault}
+use Rattle.checker.specs.Checking.{checkOf, reported}
 
 -- the calls with their arguments: a size, a piece, a working table
 pub data Call : Type 0 where
@@ -22,15 +21,15 @@ pub data Call : Type 0 where
   delete : Call
   lost : Call
 
--- what a client is told: 0 or a refusal's number, its place, and for 24 the first fault
+-- what a client is told: 0 or a refusal's number, its place, and for 24 the first fault with the IDs of its record
 pub record Said : Type 0 where
   pub number : ℕ
   pub place : ℕ
-  pub first : Fault
+  pub first : FaultEntry
 
 -- a number with its place, and no fault
 abbrev pub said : ℕ → ℕ → Said
-said n place = record { number = n; place = place; first = fault 0 0 0 }
+said n place = record { number = n; place = place; first = noFault }
 
 -- the book: whether a pool is offered, its announced size, the bytes that have arrived, the pool that is kept, whether it is active
 pub record Book : Type 0 where
@@ -63,9 +62,9 @@ abbrev pub if_then_else_ {ℓ} : {A : Type ℓ} → Bool → A → A → A
 if t then a else b = cond t a b
 
 -- the first fault of a list, zeros if there is none
-abbrev pub firstIn : List Fault → Fault
-firstIn [] = fault 0 0 0
-firstIn (f ∷ fs) = f
+abbrev pub firstIn : List FaultEntry → FaultEntry
+firstIn [] = noFault
+firstIn (e ∷ es) = e
 
 -- what follows from checking the bytes that have arrived: a refusal 3 to 7, a fault, or that they are kept from now on
 abbrev pub checked : Book → Answer → Noted
@@ -73,7 +72,7 @@ checked b a =
     if eqb (a .number) 0 then
     (if eqb (a .value) 0
     then note (record { offered = false; announced = 0; arrived = []; kept = b .arrived; active = true }) 0
-    else (record { book = over b; told = record { number = 24; place = 0; first = firstIn (breachesOf (b .arrived)) } }))
+    else (record { book = over b; told = record { number = 24; place = 0; first = firstIn (reported (b .arrived)) } }))
     else
     (record { book = if eqb (a .number) 7 then b else over b; told = said (a .number) (a .value) })
 

@@ -1,5 +1,5 @@
 -- A session call's step as the numbers that a C caller gets. Definitions only.
-use Rattle.faults.specs.Faults.{fault}
+use Rattle.faults.specs.Faults.{faultEntry}
 use Rattle.session.specs.Calls.{Told}
 use Rattle.c_answers.specs.declared.StepFields.{StepFields}
 
@@ -8,5 +8,5 @@ abbrev pub stepIn : StepFields → Told
 stepIn r =
     record {
       session = r .session;
-      reply = record { number = r .number; place = r .place; first = fault (r .«record») (r .rule) (r .item) };
+      reply = record { number = r .number; place = r .place; first = faultEntry (r .«record») (r .rule) (r .item) (r .id) (r .parent) };
     }

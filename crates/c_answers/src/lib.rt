@@ -117,6 +117,8 @@ pub struct StepFields {
     pub record: u16,
     pub rule: u16,
     pub item: u16,
+    pub id: u16,
+    pub parent: u16,
 }
 
 pub fn give_step(step: Step) -> StepFields
@@ -132,5 +134,7 @@ pub fn give_step(step: Step) -> StepFields
         record: n.record,
         rule: n.rule,
         item: n.item,
+        id: n.id,
+        parent: n.parent,
     }
 }

@@ -31,7 +31,7 @@ did (does-lost κs s st k r ask post) = let w = says r (S.lostOf s) post in reco
 
 -- the step of what is told
 given : S.Told → StepFields
-given t = record { session = t .session; place = t .reply .place; number = t .reply .number; «record» = t .reply .first .number; rule = t .reply .first .rule; item = t .reply .first .item }
+given t = record { session = t .session; place = t .reply .place; number = t .reply .number; «record» = t .reply .first .fault .number; rule = t .reply .first .fault .rule; item = t .reply .first .fault .item; id = t .reply .first .id; parent = t .reply .first .parent }
 
 -- one call, over a reference to each list
 ref : {A : Type 0} → List A → RefT (List A)

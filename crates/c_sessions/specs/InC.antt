@@ -5,7 +5,7 @@ use mathlib.Core.List.{List, []}
 use Prim.Native.Nat.{ℕ}
 use denote.Ref.{RefT, now, at-last}
 use contract.Lifetimes.{Lfts}
-use Rattle.faults.specs.Faults.{fault}
+use Rattle.faults.specs.Faults.{faultEntry}
 use Rattle.session.specs.declared.Session.{Session}
 use Rattle.c_answers.specs.declared.StepFields.{StepFields}
 use Rattle.terminal.proofs.sessions.lachsbrille_session_new.Reads as new-reads
@@ -58,7 +58,7 @@ pub record Free : Type 0 where
 
 -- what a step tells a client: its own numbers
 abbrev pub told : StepFields → Said
-told r = record { number = r .number; place = r .place; first = fault (r .«record») (r .rule) (r .item) }
+told r = record { number = r .number; place = r .place; first = faultEntry (r .«record») (r .rule) (r .item) (r .id) (r .parent) }
 
 -- the functions of C, in the form that the claim takes
 abbrev pub inC : Functions

@@ -2,4 +2,5 @@
 pub mod Pools
 pub mod Starred
 pub mod Worked
+pub mod Objects
 pub mod Listings

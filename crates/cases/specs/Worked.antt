@@ -6,7 +6,7 @@ use mathlib.Core.List.{List, [], _∷_, _++_}
 use lib.ListN.{take, drop, replicate}
 use Rattle.working_table.specs.declared.Record.{Record}
 use Rattle.working_table.specs.Table.{blank}
-use Rattle.faults.specs.Faults.{fault}
+use Rattle.faults.specs.Faults.{faultEntry}
 use Rattle.book.specs.Book as Book
 use Rattle.book.specs.Book.{Said, said, bookOf, saidOf, Call, offer, transfer, activate, deactivate, delete, lost}
 use Rattle.cases.specs.Pools.{poolQ}
@@ -53,10 +53,11 @@ rest =
     gets deactivate (said 0 0)
     ∷ gets deactivate (said 25 0)
     ∷ gets (activate table) (said 0 0)
-    -- the first 59 bytes of Q as a pool of their own: the first fault is answered, the stage ends, Q stays kept
+    -- the first 59 bytes of Q as a pool of their own: the first fault is answered with the IDs of its
+    -- device element, 2, and of that one's parent, 1; the stage ends, Q stays kept
     ∷ gets (offer 59) (said 0 0)
     ∷ gets (transfer (take 59 poolQ)) (said 0 0)
-    ∷ gets (activate table) (record { number = 24; place = 0; first = fault 3 6 2 })
+    ∷ gets (activate table) (record { number = 24; place = 0; first = faultEntry 3 6 2 2 1 })
     ∷ gets (transfer poolQ) (said 21 0)
     -- a lost connection ends an offer and deactivates the pool; the kept pool is activated again, and deleted
     ∷ gets (offer 44) (said 0 0)

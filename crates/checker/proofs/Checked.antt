@@ -1,5 +1,5 @@
 -- What follows from reading a pool for checking it. Assumes nothing.
-use mathlib.Core.Path.{_≡_, sym, ap, subst}
+use mathlib.Core.Path.{_≡_, sym, ap, subst, _∙_}
 use mathlib.Core.List.{List}
 use Prim.Native.Nat.{ℕ, suc, _+_, _<_, _≤_}
 use native.Mathlib.Omega.{arith}
@@ -8,12 +8,17 @@ use lib.Dec.{eqb}
 use lib.ListN.{length, take}
 use lib.Seq.{length-take-le}
 use Rattle.pool.specs.Answer.{Answer, answer}
-use Rattle.pool.specs.Reading.{scanOf, entriesIn, readOf}
+use Rattle.pool.specs.Reading.{Entry, scanOf, entriesIn, readOf}
 use Rattle.pool.specs.Walk.{entriesOf, Divided, Listed}
+use Rattle.pool.proofs.Starts.{entries-long}
+use Rattle.faults.specs.Faults.{entryFor}
 use Rattle.faults.specs.Emission.{Emits}
+use Rattle.faults.specs.Completing.{Unnamed, Completed}
 use Rattle.faults.proofs.Emission.{emits-written}
+use Rattle.faults.proofs.Order.{found}
+use Rattle.faults.proofs.Completing.{map-long}
 use Rattle.rules.specs.Table.{breachesIn, breachesOf}
-use Rattle.checker.specs.Checking.{checkOf, countOf, faultsAfter}
+use Rattle.checker.specs.Checking.{checkOf, countOf, reported, faultsAfter}
 
 -- ---- what is listed of a pool that is read, and what is then answered
 
@@ -34,13 +39,24 @@ module _ (p : List ℕ) (room : ℕ) (starts : List ℕ) (n : ℕ) (e : answer 0
   pub listed-divides : Divided p (take (n + 1) starts)
   listed-divides = listed .1
 
-  pub counted : (faults after : List ℕ) (k : ℕ) → Emits faults 0 (breachesIn p (entriesOf p (take (n + 1) starts))) after k
+  -- the faults that were written are of records of the pool
+  pub unnamed-left : (faults laid : List ℕ) (k : ℕ) → Emits faults 0 (breachesIn p (entriesOf p (take (n + 1) starts))) laid k → Unnamed (length (take (n + 1) starts)) laid k
+  unfolding breachesIn
+  unnamed-left faults laid k h = record {
+    before = faults;
+    faults = breachesIn p (entriesOf p (take (n + 1) starts));
+    laid = emits-written h;
+    listed = λ f m. omega (arith, found _ _ f m .below, entries-long p (take (n + 1) starts), listed-long);
+  }
+
+  pub counted : (faults laid after : List ℕ) (k : ℕ) → Emits faults 0 (breachesIn p (entriesOf p (take (n + 1) starts))) laid k → Completed (entriesOf p (take (n + 1) starts)) laid k after
       → (answer 0 k ≡ checkOf p room) × (n ≡ countOf p room) × Listed p room starts × (after ≡ faultsAfter p room faults)
-  unfolding checkOf countOf faultsAfter breachesOf
-  counted faults after k h =
+  unfolding checkOf countOf faultsAfter reported breachesOf
+  counted faults laid after k h c =
       let same : entriesOf p (take (n + 1) starts) ≡ entriesIn (scanOf p) = sym (ap entriesIn (listed-divides .divides)) in
-      let w = emits-written (rw same at h) in
-      (rw (← e) (ap (answer 0) (w .1)), rw (← e), l, rw (← e) (w .0))
+      let w = emits-written h in
+      let full = c faults (breachesIn p (entriesOf p (take (n + 1) starts))) w in
+      (rw (← e) (ap (answer 0) (w .1 ∙ ap (λ (es : List Entry). length (breachesIn p es)) same)), rw (← e), l, rw (← e, ← same) full)
 
 -- a refusal of reading is one of checking
 pub passed-on : (p : List ℕ) (room : ℕ) (starts faults : List ℕ) (number value : ℕ) → answer (suc number) value ≡ readOf p room → Listed p room starts
@@ -49,3 +65,8 @@ unfolding checkOf countOf faultsAfter
 passed-on p room starts faults number value e l =
     let d : eqb (suc number) 0 ≡ _ = ne-eqb (suc number) 0 (λ (z : suc number ≡ 0). omega arith) in
     (rw (← e, d), rw (← e, d), l, rw (← e, d))
+
+-- each fault is handed out
+pub reported-long : (p : List ℕ) → length (reported p) ≡ length (breachesOf p)
+unfolding reported
+reported-long p = map-long (entryFor (entriesIn (scanOf p))) (breachesOf p)

@@ -1,12 +1,12 @@
 -- Checking a pool: document 01, the paragraph on checking after the rule table. Definitions only.
 use Prim.Native.Nat.{ℕ}
 use mathlib.Core.Bool.{cond}
-use mathlib.Core.List.{List}
+use mathlib.Core.List.{List, map}
 use lib.Dec.{eqb}
 use lib.ListN.{length}
 use Rattle.pool.specs.Answer.{Answer, answer}
-use Rattle.pool.specs.Reading.{readOf}
-use Rattle.faults.specs.Faults.{written}
+use Rattle.pool.specs.Reading.{scanOf, entriesIn, readOf}
+use Rattle.faults.specs.Faults.{FaultEntry, entryFor, written}
 use Rattle.rules.specs.Table.{breachesOf}
 use Rattle.checker.specs.declared.Verdict.{Verdict}
 use Rattle.checker.specs.declared.Verdict.the-variants.{Checked, Empty, TooLong, NoMark, Cut, LengthOver, TooMany, TableShort}
@@ -41,6 +41,10 @@ checkOf p room = cond (eqb (readOf p room .number) 0) (answer 0 (length (breache
 unfoldable pub countOf : List ℕ → ℕ → ℕ
 countOf p room = cond (eqb (readOf p room .number) 0) (readOf p room .value) 0
 
+-- the breach list as it is handed out: each fault with the object ID and the parent ID of its record
+unfoldable pub reported : List ℕ → List FaultEntry
+reported p = map (entryFor (entriesIn (scanOf p))) (breachesOf p)
+
 -- the fault buffer after checking: it starts with the first faults if the pool is read; else it is unchanged
 unfoldable pub faultsAfter : List ℕ → ℕ → List ℕ → List ℕ
-faultsAfter p room faults = cond (eqb (readOf p room .number) 0) (written faults (breachesOf p)) faults
+faultsAfter p room faults = cond (eqb (readOf p room .number) 0) (written faults (reported p)) faults

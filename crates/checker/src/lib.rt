@@ -32,6 +32,7 @@ pub fn check_by(p: &[u8], room: usize, starts: &mut [u16], faults: &mut [u16]) -
         Outcome::Records(count) => {
             let end = count + 1;
             let found = pool_breaches::count_faults(p, &starts[..end], faults);
+            faults::name_objects(p, &starts[..end], faults, found);
             Verdict::Checked {
                 records: count,
                 faults: found,

@@ -2,25 +2,25 @@
 -- Assumes nothing.
 use mathlib.Core.Path.{_≡_, refl, sym, ap, _∙_}
 use mathlib.Core.Logic.{inl, inr}
-use mathlib.Core.List.{List, [], _∷_, _++_}
+use mathlib.Core.List.{List, [], _∷_, _++_, map}
 use Prim.Native.Nat.{ℕ, suc, _*_, _/_, _≤_, _<_}
 use native.Mathlib.Omega.{arith}
 use native.Mathlib.Decide.{decLe}
 use native.Mathlib.Nat.{zero-add}
 use lib.ListN.{length, take, drop}
 use lib.Seq.{sets, sets-eq, take-all, length-take-le}
-use Rattle.faults.specs.Faults.{Fault, width, flat, written}
+use Rattle.faults.specs.Faults.{Fault, FaultEntry, entryFor, width, flat, written}
 use Rattle.division.specs.Division.{Division, Divides}
 use Rattle.pool.specs.Answer.{answer}
 use Rattle.pool.specs.Reading.{readOf, scanOf, entriesIn}
 use Rattle.rules.specs.Table.{breachesIn, breachesOf}
 use Rattle.rules.proofs.Listing.{breaches-listed}
-use Rattle.checker.specs.Checking.{checkOf, faultsAfter}
+use Rattle.checker.specs.Checking.{checkOf, reported, faultsAfter}
 use Rattle.claims.specs.Reads.{listed, Sized, Reads}
 use Rattle.claims.specs.Checks.{Holds, Checked, Checks}
 use Rattle.claims.proofs.Verdict.{reading}
 
-flat-length : (fs : List Fault) → length (flat fs) ≡ width * length fs
+flat-length : (fs : List FaultEntry) → length (flat fs) ≡ width * length fs
 flat-length [] = refl
 flat-length (f ∷ fs) = let h = flat-length fs in omega arith
 
@@ -28,7 +28,7 @@ laid-over : (xs b : List ℕ) (n : ℕ) → length xs ≡ n → n ≤ length b �
 laid-over xs b n l h = sets-eq xs b 0 (omega (arith, l, h)) ∙ rw (zero-add (length xs), l)
 
 -- the first faults, as many as fit
-holds : (before : List ℕ) (fs : List Fault) → Holds before fs (written before fs)
+holds : (before : List ℕ) (fs : List FaultEntry) → Holds before fs (written before fs)
 unfolding written
 holds before fs = go (decLe (length before / width) (length fs))
   where
@@ -50,7 +50,7 @@ holds before fs = go (decLe (length before / width) (length fs))
         }
 
 pub checking : Checks
-unfolding checkOf faultsAfter breachesOf
+unfolding checkOf reported faultsAfter breachesOf
 checking p rs d room sized fits =
     let r : Reads p room = reading p room in
     let read : readOf p room ≡ answer 0 (length rs) = r .read (length rs) .1 (sized, (record { parts = rs; division = d }, refl, fits)) in
@@ -60,5 +60,5 @@ checking p rs d room sized fits =
       exact = breaches-listed p (listed rs (d .whole) 0) .exact;
       ascending = breaches-listed p (listed rs (d .whole) 0) .ascending;
       count = rw (read, same);
-      buffer = λ before. rw (read, same) (holds before (breachesIn p (listed rs (d .whole) 0)));
+      buffer = λ before. rw (read, same) (holds before (map (entryFor (listed rs (d .whole) 0)) (breachesIn p (listed rs (d .whole) 0))));
     }

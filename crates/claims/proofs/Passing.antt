@@ -3,16 +3,19 @@ use mathlib.Core.Path.{_≡_, refl, ap, _∙_}
 use mathlib.Core.List.{List, [], _∷_, _++_, append-assoc, append-nil}
 use Prim.Native.Nat.{ℕ, zero, suc, _+_, _-_, _≤_, _<_}
 use native.Mathlib.Omega.{arith}
-use lib.ListN.{length, take, drop, length-append, length-drop}
-use lib.Seq.{take-at, take-append-le, drop-append-le, drop-append-add}
+use lib.ListN.{length, getD, take, drop, length-append, length-drop, List·getD-append}
+use lib.Seq.{getD-append-add, take-at, take-append-le, drop-append-le, drop-append-add}
 use Rattle.wire.specs.Parts.{joined}
 use Rattle.wire.specs.Bytes.{leOf, numberAt}
-use Rattle.records.specs.Layout.{mark, markOf, kindNumber, three}
+use Rattle.records.specs.Layout.{mark, layout, markNumber, markOf, three}
 use Rattle.records.specs.Extents.{extentOf}
-use Rattle.records.specs.Places.{idOf}
+use Rattle.records.specs.Places.{fieldAt, idOf, parentIdOf}
+use Rattle.records.specs.declared.Kind.{Kind}
+use Rattle.records.specs.declared.Kind.the-variants.{Dvc, Det, Dpd, Dpt, Dvp}
 use Rattle.records.specs.declared.Mark.the-variants.{Of}
 use Rattle.records.specs.declared.Extent.{Extent}
 use Rattle.records.specs.declared.Extent.the-variants.{NoMark, Cut, LengthOver}
+use Rattle.records.proofs.Range.{parent-within}
 use Rattle.division.specs.Whole.{Whole}
 use Rattle.division.specs.Division.{AllWhole}
 use Rattle.division.proofs.Marks.{mark-length, mark-of, three-behind}
@@ -21,7 +24,7 @@ use Rattle.division.proofs.Unique.{shortest}
 use Rattle.pool.specs.Answer.{Answer, answer}
 use Rattle.pool.specs.Reading.{Entry, entryAt, Scan, records, refused, onto, turn, scanFrom, scanOf}
 use Rattle.pool.proofs.Steps.{scan-turn, scan-end}
-use Rattle.claims.specs.Reads.{listed, Bad, Bad.unmarked as bad-mark, Bad.cut as bad-cut, Bad.over as bad-over, Earliest}
+use Rattle.claims.specs.Reads.{parentIn, wholeEntry, listed, Bad, Bad.unmarked as bad-mark, Bad.cut as bad-cut, Bad.over as bad-over, Earliest}
 
 -- ---- the entry of a whole record behind other bytes
 module _ (r pre post : List ℕ) (w : Whole r) where
@@ -38,11 +41,31 @@ module _ (r pre post : List ℕ) (w : Whole r) where
       let g : 2 ≤ length (drop 3 r) = omega (arith, shortest r w, length-drop 3 r) in
       rw (drop-append-add pre (r ++ post) 3, drop-append-le 3 r post h, take-append-le 2 (drop 3 r) post g)
 
-  entry-behind : entryAt (pre ++ (r ++ post)) (length pre) (length pre + length r)
-      ≡ record { start = length pre; size = length r; kind = kindNumber (w .kind); id = leOf (take 2 (drop 3 r)) }
+  parent-behind : parentIdOf (pre ++ (r ++ post)) (length pre) ≡ parentIn (w .kind) r
+  unfolding parentIdOf fieldAt layout numberAt
+  parent-behind = go (w .kind) kind-behind
+    where
+      p : List ℕ
+      p = pre ++ (r ++ post)
+
+      go : (k : Kind) → markOf (three p (length pre)) ≡ Of k → parentIdOf p (length pre) ≡ parentIn k r
+      go Dvc m = rw m
+      go Det m =
+          let six : length pre + 3 + 2 + 1 ≡ length pre + 6 = omega arith in
+          let n : getD p (length pre + 6) 0 ≡ getD r 6 0 = getD-append-add pre (r ++ post) 6 0 ∙ List·getD-append r post 0 6 (omega (arith, shortest r w)) in
+          let within = parent-within p (length pre) (length pre + length r) (whole-ends r pre post w) (ap markNumber m) in
+          let place : length pre + 6 + 1 + getD r 6 0 + 2 ≡ length pre + (9 + getD r 6 0) = omega arith in
+          let h : 9 + getD r 6 0 + 2 ≤ length r = omega (arith, rw (six, n) at within) in
+          let g : 2 ≤ length (drop (9 + getD r 6 0) r) = omega (arith, length-drop (9 + getD r 6 0) r) in
+          rw (m, six, n, place, drop-append-add pre (r ++ post) (9 + getD r 6 0), drop-append-le (9 + getD r 6 0) r post (omega (arith, h)), take-append-le 2 (drop (9 + getD r 6 0) r) post g)
+      go Dpd m = rw m
+      go Dpt m = rw m
+      go Dvp m = rw m
+
+  entry-behind : entryAt (pre ++ (r ++ post)) (length pre) (length pre + length r) ≡ wholeEntry r w (length pre)
   entry-behind =
       let size : length pre + length r - length pre ≡ length r = omega arith in
-      rw (kind-behind, id-behind, size)
+      rw (kind-behind, id-behind, parent-behind, size)
 
 -- ---- entries in front of what is walked behind them
 abbrev ontoAll : List Entry → Scan → Scan

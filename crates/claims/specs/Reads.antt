@@ -4,10 +4,12 @@ use Prim.Native.Nat.{ℕ, _+_, _≤_, _<_}
 use mathlib.Core.Path.{_≡_}
 use mathlib.Core.Logic.{_↔_}
 use mathlib.Core.List.{List, [], _∷_, _++_, map}
-use lib.ListN.{length, take, drop}
+use lib.ListN.{length, getD, take, drop}
 use Rattle.wire.specs.Parts.{joined}
 use Rattle.wire.specs.Bytes.{leOf}
 use Rattle.records.specs.Layout.{kindNumber}
+use Rattle.records.specs.declared.Kind.{Kind}
+use Rattle.records.specs.declared.Kind.the-variants.{Dvc, Det, Dpd, Dpt, Dvp}
 use Rattle.division.specs.Whole.{Whole}
 use Rattle.division.specs.Bad.{Unmarked, CutShort, OverLimit}
 use Rattle.division.specs.Division.{AllWhole, Division, Divides}
@@ -16,10 +18,23 @@ use Rattle.pool.specs.Reading.{Entry, readOf, scanOf, entriesIn}
 use Rattle.working_table.specs.declared.Record.{Record}
 use Rattle.working_table.specs.Table.{recordOf, recordsAfter}
 
--- the entries of records that follow each other from a place on: start, length, kind and ID of each
+-- the parent ID of a whole record, by its own bytes. In a device element it stands behind the mark, the ID, the type, N with the designator
+-- and the element number; N is the byte at 6. Records of the other kinds have none: 65535
+abbrev pub parentIn : Kind → List ℕ → ℕ
+parentIn Dvc r = 65535
+parentIn Det r = leOf (take 2 (drop (9 + getD r 6 0) r))
+parentIn Dpd r = 65535
+parentIn Dpt r = 65535
+parentIn Dvp r = 65535
+
+-- the entry of a whole record that starts at a place: start, length, kind, ID and parent ID
+abbrev pub wholeEntry : (r : List ℕ) → Whole r → ℕ → Entry
+wholeEntry r w at = record { start = at; size = length r; kind = kindNumber (w .kind); id = leOf (take 2 (drop 3 r)); parent = parentIn (w .kind) r }
+
+-- the entries of records that follow each other from a place on
 abbrev pub listed : (rs : List (List ℕ)) → AllWhole rs → ℕ → List Entry
 listed [] w at = []
-listed (r ∷ rs) w at = record { start = at; size = length r; kind = kindNumber (w .0 .kind); id = leOf (take 2 (drop 3 r)) } ∷ listed rs (w .1) (at + length r)
+listed (r ∷ rs) w at = wholeEntry r (w .0) at ∷ listed rs (w .1) (at + length r)
 
 -- what is wrong with bytes that do not start with a whole record: the refusal's number, and its place relative to their start
 pub data Bad : List ℕ → ℕ → ℕ → Type 0 where

@@ -50,12 +50,12 @@ fn shown_labels(shown: Shown) -> DeviceLabels
     shown.labels
 }
 
-// Finds a text, with a list that is long enough for every record. Only the count of faults matters, so their buffer has room for one.
+// Finds a text, with a list that is long enough for every record. Only the count of faults matters, so their buffer has room for none.
 pub fn find_by(p: &[u8], room: usize, starts: &mut [u16], id: u32) -> Found
     requires { ⌜ Reaches (now starts) (now p) ⌝ }
     ensures { λ r. ⌜ Finds (now (p .entry)) room id (r .place) × (r .records ≡ countOf (now (p .entry)) room) × Listed (now (p .entry)) room (now (starts .exit)) ⌝ }
 {
-    let mut faults = [0u16; 3];
+    let mut faults = [0u16; 0];
     let verdict = checker::check_by(p, room, starts, &mut faults);
     let place = queries::find_in(p, room, starts, verdict, id);
     Found {
@@ -108,7 +108,7 @@ fn labels_by(p: &[u8], room: usize, starts: &mut [u16]) -> Shown
     requires { ⌜ Reaches (now starts) (now p) ⌝ }
     ensures { λ r. ⌜ Labelled (now (p .entry)) room (r .labels) × (r .records ≡ countOf (now (p .entry)) room) × Listed (now (p .entry)) room (now (starts .exit)) ⌝ }
 {
-    let mut faults = [0u16; 3];
+    let mut faults = [0u16; 0];
     let verdict = checker::check_by(p, room, starts, &mut faults);
     let labels = queries::labels_in(p, room, starts, verdict);
     Shown {

@@ -1,7 +1,7 @@
 -- Faults written one after the other: what is written and counted adds up to the whole list. Assumes nothing.
 use mathlib.Core.Path.{_≡_, refl, sym, ap, _∙_}
 use mathlib.Core.Bool.{Bool, true, false, cond}
-use mathlib.Core.List.{List, [], _∷_, _++_, append-nil, append-assoc}
+use mathlib.Core.List.{List, [], _∷_, _++_, map, append-nil, append-assoc}
 use Prim.Native.Nat.{ℕ, zero, suc, _+_, _-_, _*_, _/_, _≤_, _<_}
 use native.Mathlib.Decide.{decLt}
 use mathlib.Core.Logic.{⊎-elim}
@@ -12,9 +12,9 @@ use borrow.Author.Tests.{le-leb, lt-leb}
 use lib.Dec.{leb}
 use lib.ListN.{length, set, take, length-append}
 use lib.Seq.{sets, length-sets, take-nil}
-use Rattle.faults.specs.Faults.{Fault, fault, numbers, width, flat, written}
+use Rattle.faults.specs.Faults.{Fault, fault, FaultEntry, numbers, width, flat, written}
 use Rattle.faults.specs.Rows.{Row, one, many, ifSo, upTo, inRows, inRecords, Alike, AllAlike}
-use Rattle.faults.specs.Emission.{putAt, puts, Emits, Puts}
+use Rattle.faults.specs.Emission.{unnamed, putAt, puts, Emits, Puts}
 
 -- ---- one list of faults behind another
 
@@ -167,8 +167,8 @@ put-length : (b : List ℕ) (k : ℕ) (f : Fault) → length (putAt b k f) ≡ l
 unfolding putAt
 put-length b k f = go (leb (k * width + width) (length b))
   where
-    go : (t : Bool) → length (cond t (sets b (k * width) (numbers f)) b) ≡ length b
-    go true = length-sets b (k * width) (numbers f)
+    go : (t : Bool) → length (cond t (sets b (k * width) (numbers (unnamed f))) b) ≡ length b
+    go true = length-sets b (k * width) (numbers (unnamed f))
     go false = refl
 
 laid-length : (fs : List Fault) (b : List ℕ) (k : ℕ) → length (puts b k fs) ≡ length b
@@ -219,25 +219,25 @@ sets-append (x ∷ xs) ys b i =
     sets-append xs ys (set b i x) (suc i) ∙ ap (λ (j : ℕ). sets (sets (set b i x) (suc i) xs) j ys) (omega arith)
 
 -- from fault k on, those are written for which there is still room
-puts-sets : (fs : List Fault) (b : List ℕ) (k : ℕ) → puts b k fs ≡ sets b (k * width) (flat (take (length b / width - k) fs))
+puts-sets : (fs : List Fault) (b : List ℕ) (k : ℕ) → puts b k fs ≡ sets b (k * width) (flat (take (length b / width - k) (map unnamed fs)))
 unfolding puts putAt
-puts-sets [] b k = rw (take-nil {A = Fault} (length b / width - k))
+puts-sets [] b k = rw (take-nil {A = FaultEntry} (length b / width - k))
 puts-sets (f ∷ fs) b k = puts-sets fs (putAt b k f) (k + 1) ∙ rw (put-length b k f) (go (decLt k (length b / width)))
   where
     go : Dec (k < length b / width)
-        → sets (putAt b k f) ((k + 1) * width) (flat (take (length b / width - (k + 1)) fs)) ≡ sets b (k * width) (flat (take (length b / width - k) (f ∷ fs)))
+        → sets (putAt b k f) ((k + 1) * width) (flat (take (length b / width - (k + 1)) (map unnamed fs))) ≡ sets b (k * width) (flat (take (length b / width - k) (map unnamed (f ∷ fs))))
     go (yes h) =
         let room : length b / width - k ≡ suc (length b / width - (k + 1)) = omega arith in
         let next : (k + 1) * width ≡ k * width + width = omega arith in
         let fits : leb (k * width + width) (length b) ≡ true = le-leb (k * width + width) (length b) (omega arith) in
-        rw (room, next, fits) (sym (sets-append (numbers f) (flat (take (length b / width - (k + 1)) fs)) b (k * width)))
+        rw (room, next, fits) (sym (sets-append (numbers (unnamed f)) (flat (take (length b / width - (k + 1)) (map unnamed fs))) b (k * width)))
     go (no h) =
         let none : length b / width - k ≡ 0 = omega arith in
         let none-after : length b / width - (k + 1) ≡ 0 = omega arith in
         let full : leb (k * width + width) (length b) ≡ false = lt-leb (k * width + width) (length b) (omega arith) in
         rw (none, none-after, full)
 
-pub emits-written : {b₀ b : List ℕ} {k : ℕ} {fs : List Fault} → Emits b₀ 0 fs b k → (b ≡ written b₀ fs) × (k ≡ length fs)
+pub emits-written : {b₀ b : List ℕ} {k : ℕ} {fs : List Fault} → Emits b₀ 0 fs b k → (b ≡ written b₀ (map unnamed fs)) × (k ≡ length fs)
 unfolding written
 emits-written {b₀} {b} {k} {fs} p =
     let all : length b₀ / width - 0 ≡ length b₀ / width = omega arith in

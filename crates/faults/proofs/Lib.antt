@@ -2,3 +2,4 @@
 pub mod Emission
 pub mod Order
 pub mod Clearing
+pub mod Completing

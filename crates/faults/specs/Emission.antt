@@ -6,12 +6,16 @@ use mathlib.Core.List.{List, [], _∷_}
 use lib.Dec.{leb}
 use lib.ListN.{length}
 use lib.Seq.{sets}
-use Rattle.faults.specs.Faults.{Fault, numbers, width}
+use Rattle.faults.specs.Faults.{Fault, FaultEntry, numbers, width}
 use Rattle.faults.specs.Rows.{Row, inRows}
+
+-- a fault as the functions that find it write it: zeros stand where the IDs of its record will be
+abbrev pub unnamed : Fault → FaultEntry
+unnamed f = record { fault = f; id = 0; parent = 0 }
 
 -- the buffer after fault k, which is written if it fits
 unfoldable pub putAt : List ℕ → ℕ → Fault → List ℕ
-putAt b k f = cond (leb (k * width + width) (length b)) (sets b (k * width) (numbers f)) b
+putAt b k f = cond (leb (k * width + width) (length b)) (sets b (k * width) (numbers (unnamed f))) b
 
 -- the buffer after some faults, written one after the other from fault k on
 unfoldable pub puts : List ℕ → ℕ → List Fault → List ℕ

@@ -2,3 +2,4 @@
 pub mod Faults
 pub mod Rows
 pub mod Emission
+pub mod Completing

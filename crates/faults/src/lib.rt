@@ -1,4 +1,8 @@
-// A fault buffer of numbers: each fault is its record, rule and item. A fault is written if it fits, and always counted.
+// A fault buffer of numbers: each fault is its record, rule and item, followed by the object ID and the parent ID of its record. A fault
+// is written if it fits, and always counted. The functions that find faults write zeros for the two IDs; `objects` completes them.
+mod objects;
+
+pub use objects::name_objects;
 ghost use Prim.Native.Nat.{_+_, _≤_, _<_, _^_};
 ghost use Rattle.faults.specs.Faults.{fault};
 ghost use Rattle.faults.specs.Rows.{one, ifSo};
@@ -7,9 +11,9 @@ ghost use mathlib.Core.Bool.{true};
 ghost use mathlib.Core.List.{[], _∷_};
 
 // How many numbers a fault takes in a buffer.
-pub const WIDTH: usize = 3;
+pub const WIDTH: usize = 5;
 
-// Counts a fault, and writes it if it fits.
+// Counts a fault, and writes it if it fits: its three numbers, and zeros in the place of the two IDs.
 fn put(buffer: &mut [u16], count: usize, number: u16, rule: u16, item: u16) -> usize
     requires { ⌜ count < 2 ^ 48 ⌝ }
     ensures { λ r. ⌜ Emits (now (buffer .entry)) count (ifSo true (fault number rule item)) (now (buffer .exit)) r × (r ≤ count + 1) ⌝ }
@@ -19,6 +23,8 @@ fn put(buffer: &mut [u16], count: usize, number: u16, rule: u16, item: u16) -> u
         buffer[i] = number;
         buffer[i + 1] = rule;
         buffer[i + 2] = item;
+        buffer[i + 3] = 0;
+        buffer[i + 4] = 0;
     }
     count + 1
 }

@@ -190,8 +190,8 @@ fn judge_named(
     requires { ⌜ Names (now p) (now starts) (now heads) (now next) × Blank (now again) × Blank (now endless) × (length (now starts) ≤ 8 * length (now again)) × (length (now starts) ≤ 8 * length (now endless)) × (owned ≡ true → Owned (entriesOf (now p) (now starts))) ⌝ }
     ensures { λ r. ⌜ JudgedAmong (now (p .entry)) (entriesOf (now (p .entry)) (now (starts .entry))) command element ddi value r ⌝ }
 {
-    let mut first = [0u16; 3];
-    if pool_breaches::put_all(p, starts, heads, next, owned, again, endless, &mut first) != 0 {
+    let mut none = [0u16; 0];
+    if pool_breaches::put_all(p, starts, heads, next, owned, again, endless, &mut none) != 0 {
         return Judgement {
             number: 24,
             error: 0,

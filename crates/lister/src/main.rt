@@ -70,7 +70,7 @@ fn write_out(listing: &[u8]) {
 }
 
 fn run(input: &mut [u8], out: &mut [u8])
-    requires { ⌜ 90125 ≤ length (now out) ⌝ }
+    requires { ⌜ 102413 ≤ length (now out) ⌝ }
 {
     let read = read_input(input);
     let Input::Ended(n) = read else {
@@ -84,6 +84,6 @@ fn run(input: &mut [u8], out: &mut [u8])
 // The input buffer has one byte more than a pool may have, so that too long an input is noticed.
 fn main() {
     let mut input = [0u8; 65536];
-    let mut out = [0u8; 90125];
+    let mut out = [0u8; 102413];
     run(&mut input, &mut out);
 }

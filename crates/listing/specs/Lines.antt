@@ -51,9 +51,10 @@ recordLine kind id start size = letters kind ++ space ++ digits id ++ atWord ++ 
 unfoldable pub acceptedLine : List ℕ
 acceptedLine = 0x61 ∷ 0x63 ∷ 0x63 ∷ 0x65 ∷ 0x70 ∷ 0x74 ∷ 0x65 ∷ 0x64 ∷ newline
 
--- the line for a fault: the record's number, the rule and the item
-unfoldable pub faultLine : ℕ → ℕ → ℕ → List ℕ
-faultLine number rule item = faultWord ++ digits number ++ space ++ digits rule ++ space ++ digits item ++ newline
+-- the line for a fault: the record's number, the rule, the item, and the object ID and the parent ID of the record
+unfoldable pub faultLine : ℕ → ℕ → ℕ → ℕ → ℕ → List ℕ
+faultLine number rule item id parent =
+    faultWord ++ digits number ++ space ++ digits rule ++ space ++ digits item ++ space ++ digits id ++ space ++ digits parent ++ newline
 
 -- the line for a refusal: its number and its place
 unfoldable pub refusedLine : ℕ → ℕ → List ℕ

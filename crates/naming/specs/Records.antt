@@ -1,16 +1,8 @@
 -- The records of a pool by their number in it, counted from 0. Definitions only.
 use Prim.Native.Nat.{ℕ}
 use mathlib.Core.List.{List}
-use lib.ListN.{getD}
 use Rattle.pool.specs.Reading.{Entry}
-
--- the entry for a record that does not exist: it has no kind
-abbrev pub noEntry : Entry
-noEntry = record { start = 0; size = 0; kind = 0; id = 0 }
-
--- record i
-abbrev pub recordAt : List Entry → ℕ → Entry
-recordAt es i = getD es i noEntry
+pub use Rattle.pool.specs.Reading.{noEntry, recordAt}
 
 -- where record i starts
 abbrev pub startAt : List Entry → ℕ → ℕ

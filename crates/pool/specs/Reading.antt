@@ -1,40 +1,36 @@
 -- Reading a pool: document 01, "Reading a pool". Definitions only.
 use Prim.Native.Nat.{ℕ, zero, suc, _+_, _-_}
 use mathlib.Core.Bool.{Bool, true, false, cond}
-use mathlib.Core.List.{List, [], _∷_, _++_}
+use mathlib.Core.List.{List, [], _∷_}
 use lib.Dec.{eqb, ltb}
-use lib.ListN.{length}
+use lib.ListN.{length, getD}
 use Rattle.records.specs.Layout.{markNumber, markOf, three}
 use Rattle.records.specs.Extents.{extentOf}
 use Rattle.records.specs.Answer.{extentAnswer}
-use Rattle.records.specs.Places.{idOf}
+use Rattle.records.specs.Places.{idOf, parentIdOf}
 use Rattle.records.specs.declared.Extent.{Extent}
 use Rattle.records.specs.declared.Extent.the-variants.{Ends, NoMark, Cut, LengthOver}
 use Rattle.pool.specs.Answer.{Answer, answer}
 
--- an entry of the working table: a record's start, length, kind and ID
+-- an entry of the working table: a record's start, length, kind, ID and parent ID
 pub record Entry : Type 0 where
   pub start : ℕ
   pub size : ℕ
   pub kind : ℕ
   pub id : ℕ
-
--- how many numbers an entry is written as
-abbrev pub width : ℕ
-width = 4
-
--- an entry as numbers, in the order of the table
-abbrev pub numbers : Entry → List ℕ
-numbers e = e .start ∷ e .size ∷ e .kind ∷ e .id ∷ []
-
--- entries as numbers, one after the other
-abbrev pub flat : List Entry → List ℕ
-flat [] = []
-flat (e ∷ es) = numbers e ++ flat es
+  pub parent : ℕ
 
 -- the entry of the record that starts at one place and ends before another
 abbrev pub entryAt : List ℕ → ℕ → ℕ → Entry
-entryAt p at end = record { start = at; size = end - at; kind = markNumber (markOf (three p at)); id = idOf p at }
+entryAt p at end = record { start = at; size = end - at; kind = markNumber (markOf (three p at)); id = idOf p at; parent = parentIdOf p at }
+
+-- the entry for a record that does not exist: it has no kind
+abbrev pub noEntry : Entry
+noEntry = record { start = 0; size = 0; kind = 0; id = 0; parent = 0 }
+
+-- record i of a list, counted from 0
+abbrev pub recordAt : List Entry → ℕ → Entry
+recordAt es i = getD es i noEntry
 
 -- the result of a walk over the records: all of them, or the answer about the earliest bad one
 pub data Scan : Type 0 where

@@ -30,12 +30,14 @@ record-short k i s z a b c =
     let f = five z c in
     simp length-append (omega arith)
 
-pub fault-short : (n u k : ℕ) → n < 65536 → u < 65536 → k < 65536 → length (faultLine n u k) ≤ 24
+pub fault-short : (n u k i q : ℕ) → n < 65536 → u < 65536 → k < 65536 → i < 65536 → q < 65536 → length (faultLine n u k i q) ≤ 36
 unfolding faultLine
-fault-short n u k a b c =
-    let d = five n a in
-    let e = five u b in
-    let f = five k c in
+fault-short n u k i q a b c d e =
+    let v = five n a in
+    let w = five u b in
+    let x = five k c in
+    let y = five i d in
+    let z = five q e in
     simp length-append (omega arith)
 
 pub count-short : (n : ℕ) → n ≤ 2048 → length (countLine n) ≤ 13

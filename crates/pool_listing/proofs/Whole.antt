@@ -13,7 +13,8 @@ use Rattle.pool.specs.Reading.{Entry, scanOf, entriesIn, readOf}
 use Rattle.pool.specs.Walk.{entriesOf, Divided, Listed}
 use Rattle.pool.proofs.Judged.{read-counted}
 use Rattle.rules.specs.Table.{breachesOf}
-use Rattle.checker.specs.Checking.{checkOf, countOf, faultsAfter}
+use Rattle.checker.specs.Checking.{checkOf, countOf, reported, faultsAfter}
+use Rattle.checker.proofs.Checked.{reported-long}
 use Rattle.listing.specs.Lines.{countLine, refusedLine}
 use Rattle.pool_listing.specs.Listing.{recordLines, findings, readListing, listingOf}
 use Rattle.pool_listing.specs.Parts.{Held}
@@ -62,18 +63,18 @@ module _ (p starts : List ℕ) (z : checkOf p 2048 .number ≡ 0) (listed : List
   entries = sym (ap entriesIn (divided .divides))
 
   -- the parts are the listing
-  pub whole : countLine n ++ recordLines (entriesOf p (take (n + 1) starts)) ++ findings (breachesOf p) ≡ listingOf p
+  pub whole : countLine n ++ recordLines (entriesOf p (take (n + 1) starts)) ++ findings (reported p) ≡ listingOf p
   unfolding listingOf readListing
   whole =
       rw (eq-eqb (checkOf p 2048 .number) 0 z)
-      (ap (λ (k : ℕ). countLine k ++ recordLines (entriesOf p (take (n + 1) starts)) ++ findings (breachesOf p)) (sym (read-counted p 2048 n answered .count))
-      ∙ ap (λ (es : List Entry). countLine (length (entriesIn (scanOf p))) ++ recordLines es ++ findings (breachesOf p)) entries)
+      (ap (λ (k : ℕ). countLine k ++ recordLines (entriesOf p (take (n + 1) starts)) ++ findings (reported p)) (sym (read-counted p 2048 n answered .count))
+      ∙ ap (λ (es : List Entry). countLine (length (entriesIn (scanOf p))) ++ recordLines es ++ findings (reported p)) entries)
 
   -- the faults that checking counts and the buffer holds
-  pub found : (v : ℕ) → v ≡ checkOf p 2048 .value → v ≡ length (breachesOf p)
+  pub found : (v : ℕ) → v ≡ checkOf p 2048 .value → v ≡ length (reported p)
   unfolding checkOf
-  found v e = e ∙ rw (eq-eqb (readOf p 2048 .number) 0 (read p z))
+  found v e = e ∙ rw (eq-eqb (readOf p 2048 .number) 0 (read p z)) (sym (reported-long p))
 
-  pub held : (before after : List ℕ) → length before ≡ 3072 → after ≡ faultsAfter p 2048 before → Held after (breachesOf p)
+  pub held : (before after : List ℕ) → length before ≡ 5120 → after ≡ faultsAfter p 2048 before → Held after (reported p)
   unfolding faultsAfter
   held before after l e = record { before = before; long = l; is = e ∙ rw (eq-eqb (readOf p 2048 .number) 0 (read p z)) }

@@ -5,7 +5,7 @@ ghost use mathlib.Core.Path.{_≡_};
 ghost use mathlib.Core.List.{List};
 ghost use lib.ListN.{length};
 ghost use lib.Seq.{sets};
-ghost use Rattle.faults.specs.Faults.{Fault};
+ghost use Rattle.faults.specs.Faults.{FaultEntry, width};
 ghost use Rattle.pool.specs.Walk.{Divided, entriesOf};
 ghost use Rattle.pool_listing.specs.Listing.{recordLines, faultLines, findings, listingOf};
 ghost use Rattle.pool_listing.specs.Parts.{Adds, Held, faultsIn};
@@ -34,16 +34,24 @@ fn put_records(p: &[u8], starts: &[u16], out: &mut [u8], from: usize) -> usize
     at
 }
 
-// Writes a line for each of the first n faults. A line has at most 24 bytes.
+// Writes a line for each of the first n faults. A line has at most 36 bytes.
 fn put_faults(faults: &[u16], n: usize, out: &mut [u8], from: usize) -> usize
-    requires { ⌜ (3 * n ≤ length (now faults)) × (from + 24 * n ≤ length (now out)) ⌝ }
-    ensures { λ r. ⌜ Adds (now (out .entry)) from (faultLines (faultsIn n (now (faults .entry)))) (now (out .exit)) r × (r ≤ from + 24 * n) ⌝ }
+    requires { ⌜ (width * n ≤ length (now faults)) × (from + 36 * n ≤ length (now out)) ⌝ }
+    ensures { λ r. ⌜ Adds (now (out .entry)) from (faultLines (faultsIn n (now (faults .entry)))) (now (out .exit)) r × (r ≤ from + 36 * n) ⌝ }
 {
     let mut at = from;
     let mut i: usize = 0;
     while i < n {
-        let k = 3 * i;
-        at = listing::put_fault(out, at, faults[k], faults[k + 1], faults[k + 2]);
+        let k = faults::WIDTH * i;
+        at = listing::put_fault(
+            out,
+            at,
+            faults[k],
+            faults[k + 1],
+            faults[k + 2],
+            faults[k + 3],
+            faults[k + 4],
+        );
         i += 1;
     }
     at
@@ -51,8 +59,8 @@ fn put_faults(faults: &[u16], n: usize, out: &mut [u8], from: usize) -> usize
 
 // Writes what checking found, given how many faults there are: the buffer has the first 1,024.
 fn put_findings(faults: &[u16], found: usize, out: &mut [u8], from: usize) -> usize
-    requires { ⌜ (length (now faults) ≡ 3072) × (from + 24576 ≤ length (now out)) ⌝ }
-    ensures { λ r. ⌜ ((fs : List Fault) → Held (now (faults .entry)) fs → found ≡ length fs → Adds (now (out .entry)) from (findings fs) (now (out .exit)) r) × (r ≤ from + 24576) ⌝ }
+    requires { ⌜ (length (now faults) ≡ 5120) × (from + 36864 ≤ length (now out)) ⌝ }
+    ensures { λ r. ⌜ ((fs : List FaultEntry) → Held (now (faults .entry)) fs → found ≡ length fs → Adds (now (out .entry)) from (findings fs) (now (out .exit)) r) × (r ≤ from + 36864) ⌝ }
 {
     if found == 0 {
         return listing::put_accepted(out, from);
@@ -65,8 +73,8 @@ fn put_findings(faults: &[u16], found: usize, out: &mut [u8], from: usize) -> us
 
 // Lists a pool, with a list that is long enough for the starts of every pool's records, and a buffer for its first 1,024 faults.
 fn list_by(p: &[u8], starts: &mut [u16], faults: &mut [u16], out: &mut [u8]) -> usize
-    requires { ⌜ (length (now starts) ≡ 5462) × (length (now faults) ≡ 3072) × (90125 ≤ length (now out)) ⌝ }
-    ensures { λ r. ⌜ Adds (now (out .entry)) 0 (listingOf (now (p .entry))) (now (out .exit)) r × (r ≤ 90125) ⌝ }
+    requires { ⌜ (length (now starts) ≡ 5462) × (length (now faults) ≡ 5120) × (102413 ≤ length (now out)) ⌝ }
+    ensures { λ r. ⌜ Adds (now (out .entry)) 0 (listingOf (now (p .entry))) (now (out .exit)) r × (r ≤ 102413) ⌝ }
 {
     let verdict = checker::check_by(p, 2048, starts, faults);
     let number = checker::number_of(verdict);
@@ -81,13 +89,13 @@ fn list_by(p: &[u8], starts: &mut [u16], faults: &mut [u16], out: &mut [u8]) -> 
     put_findings(faults, value, out, next)
 }
 
-// Writes the listing of a pool to the start of a buffer, and returns its length. No listing is longer than 90,125 bytes: the line for the
-// count has at most 13, and there are at most 2,048 records, with 32 each, and 1,024 faults, with 24.
+// Writes the listing of a pool to the start of a buffer, and returns its length. No listing is longer than 102,413 bytes: the line for the
+// count has at most 13, and there are at most 2,048 records, with 32 each, and 1,024 faults, with 36.
 pub fn list(p: &[u8], out: &mut [u8]) -> usize
-    requires { ⌜ 90125 ≤ length (now out) ⌝ }
+    requires { ⌜ 102413 ≤ length (now out) ⌝ }
     ensures { λ r. ⌜ (now (out .exit) ≡ sets (now (out .entry)) 0 (listingOf (now (p .entry)))) × (r ≡ length (listingOf (now (p .entry)))) × (r ≤ length (now (out .exit))) ⌝ }
 {
     let mut starts = [0u16; 5462];
-    let mut faults = [0u16; 3072];
+    let mut faults = [0u16; 1024 * faults::WIDTH];
     list_by(p, &mut starts, &mut faults, out)
 }

@@ -21,7 +21,7 @@ use Rattle.division.proofs.Marks.{mark-length, mark-of}
 use Rattle.division.proofs.Written.{whole-are-written}
 use Rattle.pool.specs.Reading.{Entry}
 use Rattle.naming.specs.Records.{noEntry, startAt, idAt, kindAt}
-use Rattle.claims.specs.Reads.{listed}
+use Rattle.claims.specs.Reads.{wholeEntry, listed}
 use Rattle.claims.proofs.Sorting.{listed-length}
 use Rattle.query_claims.specs.Texts.{idIn}
 
@@ -62,16 +62,13 @@ pub joined-at : (front : List (List ℕ)) (r : List ℕ) (back : List (List ℕ)
 joined-at [] r back = refl
 joined-at (f ∷ front) r back = ap (λ (l : List ℕ). f ++ l) (joined-at front r back) ∙ sym (append-assoc f (joined front) (r ++ joined back))
 
-abbrev entry : ℕ → ℕ → Kind → ℕ → Entry
-entry start size k id = record { start = start; size = size; kind = kindNumber k; id = id }
-
 listed-at : (front : List (List ℕ)) (r : List ℕ) (back : List (List ℕ)) (w : AllWhole (front ++ (r ∷ back))) (at : ℕ)
-    → getD (listed (front ++ (r ∷ back)) w at) (length front) noEntry ≡ entry (at + length (joined front)) (length r) (whole-at front r back w .kind) (leOf (take 2 (drop 3 r)))
+    → getD (listed (front ++ (r ∷ back)) w at) (length front) noEntry ≡ wholeEntry r (whole-at front r back w) (at + length (joined front))
 unfolding whole-at
-listed-at [] r back w at = ap (λ (n : ℕ). entry n (length r) (w .0 .kind) (leOf (take 2 (drop 3 r)))) (sym (add-zero at))
+listed-at [] r back w at = ap (wholeEntry r (w .0)) (sym (add-zero at))
 listed-at (f ∷ front) r back w at =
     listed-at front r back (w .1) (at + length f)
-    ∙ ap (λ (n : ℕ). entry n (length r) (whole-at front r back (w .1) .kind) (leOf (take 2 (drop 3 r)))) (omega (arith, length-append f (joined front)))
+    ∙ ap (wholeEntry r (whole-at front r back (w .1))) (omega (arith, length-append f (joined front)))
 
 -- record number `length front` of a division
 pub record Placed (p : List ℕ) (es : List Entry) (i : ℕ) (before r after : List ℕ) : Type 0 where

@@ -8,9 +8,9 @@ use borrow.Author.Tests.{leb-true, ltb-true}
 use lib.Dec.{leb, ltb}
 use lib.ListN.{length, getD}
 use Rattle.wire.specs.Bytes.{numberAt}
-use Rattle.records.specs.Layout.{Field, fixed, text, entries, layout, markOf, three}
+use Rattle.records.specs.Layout.{Field, fixed, text, entries, layout, markNumber, markOf, three}
 use Rattle.records.specs.Extents.{fieldEnd, next, fieldsEnd, markedEnd, extentOf}
-use Rattle.records.specs.Places.{behind, behindAll}
+use Rattle.records.specs.Places.{behind, behindAll, fieldAt}
 use Rattle.records.specs.declared.Kind.{Kind}
 use Rattle.records.specs.declared.Kind.the-variants.{Dvc, Det, Dpd, Dpt, Dvp}
 use Rattle.records.specs.declared.Mark.{Mark}
@@ -102,3 +102,19 @@ extent-ends p at e h =
     go : at + 3 ≤ length p → (m : Mark) → markedEnd m p (at + 3) ≡ Ends e → (at + 12 ≤ e) × (e ≤ length p)
     go fits (Of k) g = let r = fields-end (layout k) p (at + 3) e g fits in (omega (arith, r .2, kind-long k p (at + 3)), r .1)
     go fits Unknown g = absurd (unmarked-ends e g)
+
+-- the parent ID of a device element lies within the record
+pub parent-within : (p : List ℕ) (at e : ℕ) → extentOf p at ≡ Ends e → markNumber (markOf (three p at)) ≡ 2 → fieldAt Det 4 p at + 2 ≤ e
+unfolding extentOf fieldAt layout
+parent-within p at e h k =
+    let g = guarded (leb (at + 3) (length p)) (markedEnd (markOf (three p at)) p (at + 3)) Cut e cut-ends h in
+    let fits : at + 3 ≤ length p = leb-true (at + 3) (length p) (g .0) in
+    go fits (markOf (three p at)) k (g .1)
+  where
+    go : at + 3 ≤ length p → (m : Mark) → markNumber m ≡ 2 → markedEnd m p (at + 3) ≡ Ends e → fieldAt Det 4 p at + 2 ≤ e
+    go fits (Of Dvc) n x = absurd (omega arith)
+    go fits (Of Det) n x = let r = fields-end (layout Det) p (at + 3) e x fits in omega (arith, r .2)
+    go fits (Of Dpd) n x = absurd (omega arith)
+    go fits (Of Dpt) n x = absurd (omega arith)
+    go fits (Of Dvp) n x = absurd (omega arith)
+    go fits Unknown n x = absurd (omega arith)

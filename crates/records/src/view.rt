@@ -5,7 +5,7 @@ ghost use mathlib.Core.Path.{_≡_};
 ghost use mathlib.Core.Bool.{_||_};
 ghost use lib.Dec.{eqb};
 ghost use Rattle.records.specs.Layout.{markNumber, markOf, three};
-ghost use Rattle.records.specs.Places.{idOf};
+ghost use Rattle.records.specs.Places.{idOf, parentIdOf};
 
 pub fn mark(p: &[u8], at: u16) -> Mark
     ensures { λ r. ⌜ r ≡ markOf (three (now (p .entry)) at) ⌝ }
@@ -76,4 +76,18 @@ pub fn id(p: &[u8], at: u16) -> u16
     ensures { λ r. ⌜ r ≡ idOf (now (p .entry)) at ⌝ }
 {
     wire::read_u16(p, at as usize + 3)
+}
+
+// The parent ID of a record with a mark: a device element's own field, behind its designator and its element number. No other kind has
+// one: 65535.
+pub fn parent_id(p: &[u8], at: u16) -> u16
+    requires { ⌜ (markNumber (markOf (three (now p) at)) ≡ 0 → ⊥) ⌝ }
+    ensures { λ r. ⌜ r ≡ parentIdOf (now (p .entry)) at ⌝ }
+{
+    if kind_number(p, at) != 2 {
+        return 65535;
+    }
+    let length_at = at as usize + 6;
+    let number_at = length_at + 1 + wire::read_u8(p, length_at) as usize;
+    wire::read_u16(p, number_at + 2)
 }

@@ -1,6 +1,6 @@
 -- What a session call answers, in the numbers of document 01. Definitions only.
 use Prim.Native.Nat.{ℕ}
-use Rattle.faults.specs.Faults.{Fault, fault}
+use Rattle.faults.specs.Faults.{FaultEntry, faultEntry, noFault}
 use Rattle.session.specs.declared.Numbers.{Numbers}
 use Rattle.session.specs.declared.Answer.{Answer}
 use Rattle.session.specs.declared.Answer.the-variants.{Done, NoMark, Cut, LengthOver, TooMany, TableShort, BadSize, NotOffered, BadPiece, Incomplete, Faulty, NotActive, NoRoom, CannotArise}
@@ -9,15 +9,15 @@ use Rattle.session.specs.declared.Answer.the-variants.{Done, NoMark, Cut
 pub record Reply : Type 0 where
   pub number : ℕ
   pub place : ℕ
-  pub first : Fault
+  pub first : FaultEntry
 
 -- a number with its place, and no fault
 abbrev pub reply : ℕ → ℕ → Reply
-reply n place = record { number = n; place = place; first = fault 0 0 0 }
+reply n place = record { number = n; place = place; first = noFault }
 
 -- 24 with the first fault
-abbrev pub faulty : Fault → Reply
-faulty f = record { number = 24; place = 0; first = f }
+abbrev pub faulty : FaultEntry → Reply
+faulty e = record { number = 24; place = 0; first = e }
 
 -- the number, place and first fault of each answer
 abbrev pub replyOf : Answer → Reply
@@ -31,11 +31,11 @@ replyOf BadSize = reply 20 0
 replyOf NotOffered = reply 21 0
 replyOf BadPiece = reply 22 0
 replyOf Incomplete = reply 23 0
-replyOf (Faulty number rule item) = faulty (fault number rule item)
+replyOf (Faulty number rule item id parent) = faulty (faultEntry number rule item id parent)
 replyOf NotActive = reply 25 0
 replyOf NoRoom = reply 26 0
 replyOf CannotArise = reply 27 0
 
 -- the same from the numbers that `numbers_of` returns
 abbrev pub replyIn : Numbers → Reply
-replyIn n = record { number = n .number; place = n .place; first = fault (n .«record») (n .rule) (n .item) }
+replyIn n = record { number = n .number; place = n .place; first = faultEntry (n .«record») (n .rule) (n .item) (n .id) (n .parent) }

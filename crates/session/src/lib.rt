@@ -27,7 +27,13 @@ pub enum Answer {
     NotOffered,
     BadPiece,
     Incomplete,
-    Faulty { record: u16, rule: u16, item: u16 },
+    Faulty {
+        record: u16,
+        rule: u16,
+        item: u16,
+        id: u16,
+        parent: u16,
+    },
     NotActive,
     NoRoom,
     CannotArise,
@@ -45,6 +51,8 @@ pub struct Numbers {
     pub record: u16,
     pub rule: u16,
     pub item: u16,
+    pub id: u16,
+    pub parent: u16,
 }
 
 pub fn new() -> Session
@@ -211,6 +219,8 @@ fn plain(number: u32, place: usize) -> Numbers
         record: 0,
         rule: 0,
         item: 0,
+        id: 0,
+        parent: 0,
     }
 }
 
@@ -229,12 +239,20 @@ pub fn numbers_of(answer: Answer) -> Numbers
         Answer::NotOffered => plain(21, 0),
         Answer::BadPiece => plain(22, 0),
         Answer::Incomplete => plain(23, 0),
-        Answer::Faulty { record, rule, item } => Numbers {
+        Answer::Faulty {
+            record,
+            rule,
+            item,
+            id,
+            parent,
+        } => Numbers {
             number: 24,
             place: 0,
             record,
             rule,
             item,
+            id,
+            parent,
         },
         Answer::NotActive => plain(25, 0),
         Answer::NoRoom => plain(26, 0),

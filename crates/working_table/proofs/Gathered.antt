@@ -2,14 +2,16 @@
 use mathlib.Core.Path.{_≡_, refl, sym, ap, subst, _∙_}
 use mathlib.Core.List.{List, [], _∷_, map}
 use Prim.Native.Nat.{ℕ, zero, suc, _+_, _≤_, _<_}
-use native.Mathlib.Decide.{decLt}
+use native.Mathlib.Decide.{ℕ-discrete, decLt}
 use native.Mathlib.Omega.{arith}
 use borrow.Author.Tests.{eq-eqb, ne-eqb}
 use lib.ListN.{length, getD, set, take, drop, length-set, length-take}
 use lib.Seq.{sets, getD-take, length-take-le, take-take, take-nil}
 use Rattle.wire.specs.Bytes.{numberAt}
-use Rattle.records.specs.Layout.{markNumber, markOf, three}
-use Rattle.records.specs.Places.{idOf}
+use Rattle.records.specs.Layout.{layout, markNumber, markOf, three}
+use Rattle.records.specs.Places.{fieldAt, idOf, parentIdOf}
+use Rattle.records.specs.declared.Kind.the-variants.{Det}
+use Rattle.records.proofs.Range.{parent-within}
 use Rattle.pool.specs.Answer.{Answer, answer, answerOf, recordsIn}
 use Rattle.pool.specs.Reading.{Entry, entryAt, Scan, records, scanOf, entriesIn, readOf}
 use Rattle.pool.specs.Walk.{entriesOf, Divided, Listed}
@@ -76,6 +78,8 @@ divided-stands p starts n h d i l =
       rises = omega (arith, s .later);
       within = omega (arith, s .later, s .within);
       marked = subst (λ (k : ℕ). markNumber (markOf (three p k)) ≡ 0 → ⊥) at (starts-marked p t d i (omega arith));
+      parent = subst (λ (k : ℕ). markNumber (markOf (three p k)) ≡ 2 → fieldAt Det 4 p k + 2 ≤ length p) at
+          (λ e. omega (arith, parent-within p (getD t i 0) (getD t (suc i) 0) (s .ends) e, s .within));
     }
 
 -- a list that divides the pool gives the entries that reading does
@@ -120,13 +124,41 @@ part-of w (suc k) (suc a) (x ∷ s) h = part-of w k a s (omega arith)
 three-part : (a : ℕ) (s : List ℕ) (at : ℕ) → at + 5 ≤ a → three (take a s) at ≡ three s at
 three-part a s at h = rw (getD-take a s at 0 (omega arith), getD-take a s (at + 1) 0 (omega arith), getD-take a s (at + 2) 0 (omega arith))
 
-entry-part : (a : ℕ) (s : List ℕ) (at end : ℕ) → at + 5 ≤ a → entryAt (take a s) at end ≡ entryAt s at end
-unfolding idOf numberAt
-entry-part a s at end h = rw (three-part a s at h, part-of 2 (at + 3) a s (omega arith))
+number-part : (a : ℕ) (s : List ℕ) (at : ℕ) → at + 2 ≤ a → numberAt 2 (take a s) at ≡ numberAt 2 s at
+unfolding numberAt
+number-part a s at h = rw (part-of 2 at a s h)
+
+id-part : (a : ℕ) (s : List ℕ) (at : ℕ) → at + 5 ≤ a → idOf (take a s) at ≡ idOf s at
+unfolding idOf
+id-part a s at h = number-part a s (at + 3) (omega arith)
+
+-- a device element's designator decides where its parent ID stands
+place-part : (a : ℕ) (s : List ℕ) (at : ℕ) → fieldAt Det 4 (take a s) at + 2 ≤ a → fieldAt Det 4 (take a s) at ≡ fieldAt Det 4 s at
+unfolding fieldAt layout
+place-part a s at h = rw (getD-take a s (at + 3 + 2 + 1) 0 (omega arith))
+
+parent-part : (a : ℕ) (s : List ℕ) (at : ℕ) → at + 5 ≤ a → (markNumber (markOf (three (take a s) at)) ≡ 2 → fieldAt Det 4 (take a s) at + 2 ≤ a) → parentIdOf (take a s) at ≡ parentIdOf s at
+unfolding parentIdOf
+parent-part a s at h field = go (ℕ-discrete (markNumber (markOf (three s at))) 2)
+  where
+    same : three (take a s) at ≡ three s at
+    same = three-part a s at h
+
+    go : Dec (markNumber (markOf (three s at)) ≡ 2) → parentIdOf (take a s) at ≡ parentIdOf s at
+    go (yes e) =
+        let within = field (ap (λ (l : List ℕ). markNumber (markOf l)) same ∙ e) in
+        rw (same, eq-eqb (markNumber (markOf (three s at))) 2 e) (number-part a s (fieldAt Det 4 (take a s) at) within ∙ ap (numberAt 2 s) (place-part a s at within))
+    go (no n) = rw (same, ne-eqb (markNumber (markOf (three s at))) 2 n)
+
+entry-part : (a : ℕ) (s : List ℕ) (at end : ℕ) → at + 5 ≤ a → (markNumber (markOf (three (take a s) at)) ≡ 2 → fieldAt Det 4 (take a s) at + 2 ≤ a) → entryAt (take a s) at end ≡ entryAt s at end
+entry-part a s at end h field = rw (three-part a s at h, id-part a s at h, parent-part a s at h field)
 
 module _ (a : ℕ) (s starts : List ℕ) where
   in-part : (i : ℕ) → Stands (take a s) starts i → getD starts i 0 + 5 ≤ a
   in-part i x = omega (arith, x .within, length-take a s)
+
+  parent-in-part : (i : ℕ) → Stands (take a s) starts i → markNumber (markOf (three (take a s) (getD starts i 0))) ≡ 2 → fieldAt Det 4 (take a s) (getD starts i 0) + 2 ≤ a
+  parent-in-part i x e = omega (arith, x .parent e, length-take a s)
 
   stands-part : (i : ℕ) → Stands (take a s) starts i → Stands s starts i
   stands-part i x = record {
@@ -134,6 +166,8 @@ module _ (a : ℕ) (s starts : List ℕ) where
     rises = x .rises;
     within = omega (arith, x .within, length-take a s);
     marked = subst (λ (l : List ℕ). markNumber (markOf l) ≡ 0 → ⊥) (three-part a s (getD starts i 0) (in-part i x)) (x .marked);
+    parent = λ e. let within = parent-in-part i x (ap (λ (l : List ℕ). markNumber (markOf l)) (three-part a s (getD starts i 0) (in-part i x)) ∙ e) in
+        omega (arith, x .parent (ap (λ (l : List ℕ). markNumber (markOf l)) (three-part a s (getD starts i 0) (in-part i x)) ∙ e), place-part a s (getD starts i 0) within, length-take a s);
   }
 
   pub fillable-part : (n : ℕ) (table : List Record) → Fillable (take a s) starts n table → Fillable s starts n table
@@ -144,7 +178,7 @@ module _ (a : ℕ) (s starts : List ℕ) where
   gathered-part zero table stands = refl
   gathered-part (suc n) table stands =
       ap (λ (l : List Record). set l n (rowIn s starts n)) (gathered-part n table (λ i h. stands i (omega arith)))
-      ∙ ap (set (gathered (take a s) starts n table) n) (row-is s starts n ∙ sym (row-is (take a s) starts n ∙ ap recordOf (entry-part a s (getD starts n 0) (getD starts (suc n) 0) (in-part n (stands n (omega arith))))))
+      ∙ ap (set (gathered (take a s) starts n table) n) (row-is s starts n ∙ sym (row-is (take a s) starts n ∙ ap recordOf (entry-part a s (getD starts n 0) (getD starts (suc n) 0) (in-part n (stands n (omega arith))) (parent-in-part n (stands n (omega arith))))))
 
 -- what reading answers says how many entries are filled
 pub outcome-counts : (r : Outcome) → answerOf r .number ≡ 0 → recordsIn r ≡ answerOf r .value

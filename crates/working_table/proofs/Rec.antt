@@ -1,4 +1,4 @@
--- What every walk over a slice of `Record` cites of the struct: its row, its machine values, and their laws; and the place of element i, which lies i * 8 bytes past the start.
+-- What every walk over a slice of `Record` cites of the struct: its row, its machine values, and their laws; and the place of element i, which lies i * 10 bytes past the start.
 -- Assumes nothing, but for the laws under a model, which take `Given`.
 use mathlib.Core.Path.{_≡_}
 use Prim.Native.Nat.{ℕ, _+_, _*_, _<_}
@@ -47,9 +47,9 @@ module _ {M : Type 1} (𝓤 : URA M) (H : Heap 𝓤) (A : Atoms 𝓤) where
     typed r g = LL.lawful T.the-type T′.the-laws 𝓤 H A W .typed r _ g .0
 
 -- the place that the code computes is the element's
-pub place-rec : (o i : ℕ) → place 8 o i ≡ i * 8 + o
-place-rec o i = place-is 8 o i
+pub place-rec : (o i : ℕ) → place 10 o i ≡ i * 10 + o
+place-rec o i = place-is 10 o i
 
 -- and the product fits, since all the elements have room
-pub in-room : (i n : ℕ) → Room R n → i < n → Fits w64 (i * 8)
+pub in-room : (i n : ℕ) → Room R n → i < n → Fits w64 (i * 10)
 in-room i n room l = record { fits = omega (arith, room .1) }

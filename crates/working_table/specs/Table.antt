@@ -11,13 +11,13 @@ use Rattle.pool.specs.Reading.{Entry, scanOf, entriesIn, readOf}
 use Rattle.pool.specs.declared.Outcome.{Outcome}
 use Rattle.working_table.specs.declared.Record.{Record}
 
--- an entry of a pool's division as an element of the table: start, length, kind and ID
+-- an entry of a pool's division as an element of the table: start, length, kind, ID and parent ID
 abbrev pub recordOf : Entry → Record
-recordOf e = record { start = e .start; length = e .size; kind = e .kind; id = e .id }
+recordOf e = record { start = e .start; length = e .size; kind = e .kind; id = e .id; parent = e .parent }
 
 -- a record of zeros, as the entry past a table's end
 abbrev pub blank : Record
-blank = record { start = 0; length = 0; kind = 0; id = 0 }
+blank = record { start = 0; length = 0; kind = 0; id = 0; parent = 0 }
 
 -- the table after reading: if the pool is read, it starts with an entry for each record, and later entries are as they were; else it
 -- is unchanged. It has room for as many records as it has entries

@@ -10,13 +10,14 @@ ghost use Rattle.pool.specs.Reading.{readOf};
 ghost use Rattle.working_table.specs.Table.{recordsAfter, Reads};
 ghost use Rattle.working_table.specs.Rows.{rowIn, gathered, Stands, Fillable};
 
-// An entry of the table. The kind is its number: 1 DVC, 2 DET, 3 DPD, 4 DPT, 5 DVP.
+// An entry of the table. The kind is its number: 1 DVC, 2 DET, 3 DPD, 4 DPT, 5 DVP. Only a DET has a parent ID; the others have 65535.
 #[repr(C)]
 pub struct Record {
     pub start: u16,
     pub length: u16,
     pub kind: u16,
     pub id: u16,
+    pub parent: u16,
 }
 
 // The entry of record i, which ends where the next one starts. The caller knows that the record can be read, so nothing is tested.
@@ -31,6 +32,7 @@ fn row_at(p: &[u8], starts: &[u16], i: usize) -> Record
         length: end - start,
         kind: view::kind_number(p, start),
         id: wire::pair(p, start as usize + 3),
+        parent: view::parent_id(p, start),
     }
 }
 

@@ -2,7 +2,7 @@
 use mathlib.Core.Path.{sym, ap, _∙_}
 use native.Mathlib.Omega.{arith}
 use Rattle.pool.specs.Answer.{answerOf}
-use Rattle.checker.proofs.Checked.{listed-room, listed-long, listed-divides, counted, passed-on}
+use Rattle.checker.proofs.Checked.{listed-room, listed-long, listed-divides, unnamed-left, counted, passed-on}
 use borrow.Author.Needs.{needs}
 use Rattle.checker.proofs.check_by.Statement.{statement}
 use Rattle.checker.proofs.check_by.Tie as tie
@@ -28,6 +28,18 @@ count-faults-requires : tie.Need-count-faults-requires
 count-faults-requires c κs =
     let k = c .before .before .before .before .before .before .before .list-for in
     listed-divides (c .before .before .before .before .before .before .before .before .before .before .before .before .args .p .now) (c .before .before .before .before .before .before .before .before .before .before .before .before .args .room) (k .last .1 .1 .0) (c .before .before .before .outcome .given .0 .0) (sym (ap answerOf (c .before .before .before .outcome .given .1)) ∙ k .ensures .0) (k .ensures .1)
+
+slice-reshare-prefix-name-objects : tie.Need-slice-reshare-prefix-name-objects
+slice-reshare-prefix-name-objects c = let k = c .before .before .before .before .before .before .before .before .before .before .list-for in listed-room (c .before .before .before .before .before .before .before .before .before .before .before .before .before .before .before .args .p .now) (c .before .before .before .before .before .before .before .before .before .before .before .before .before .before .before .args .room) (k .last .1 .1 .0) (c .before .before .before .before .before .before .outcome .given .0 .0) (sym (ap answerOf (c .before .before .before .before .before .before .outcome .given .1)) ∙ k .ensures .0) (k .ensures .1)
+
+slice-aggregate-name-objects : tie.Need-slice-aggregate-name-objects
+slice-aggregate-name-objects c = let k = c .before .before .before .before .before .before .before .before .before .before .before .list-for in listed-long (c .before .before .before .before .before .before .before .before .before .before .before .before .before .before .before .before .args .p .now) (c .before .before .before .before .before .before .before .before .before .before .before .before .before .before .before .before .args .room) (k .last .1 .1 .0) (c .before .before .before .before .before .before .before .outcome .given .0 .0) (sym (ap answerOf (c .before .before .before .before .before .before .before .outcome .given .1)) ∙ k .ensures .0) (k .ensures .1)
+
+name-objects-requires : tie.Need-name-objects-requires
+name-objects-requires c κs =
+    let k = c .before .before .before .before .before .before .before .before .before .before .before .before .list-for in
+    let f = c .before .before .before .before .count-faults in
+    (listed-divides (c .before .before .before .before .before .before .before .before .before .before .before .before .before .before .before .before .before .args .p .now) (c .before .before .before .before .before .before .before .before .before .before .before .before .before .before .before .before .before .args .room) (k .last .1 .1 .0) (c .before .before .before .before .before .before .before .before .outcome .given .0 .0) (sym (ap answerOf (c .before .before .before .before .before .before .before .before .outcome .given .1)) ∙ k .ensures .0) (k .ensures .1), unnamed-left (c .before .before .before .before .before .before .before .before .before .before .before .before .before .before .before .before .before .args .p .now) (c .before .before .before .before .before .before .before .before .before .before .before .before .before .before .before .before .before .args .room) (k .last .1 .1 .0) (c .before .before .before .before .before .before .before .before .outcome .given .0 .0) (sym (ap answerOf (c .before .before .before .before .before .before .before .before .outcome .given .1)) ∙ k .ensures .0) (k .ensures .1) (c .before .before .before .before .before .before .before .before .before .before .before .before .before .before .before .before .before .args .faults .now) _ (f .result) (f .ensures))
 
 enum-told : tie.Need-enum-told
 enum-told c = search needs
@@ -58,9 +70,9 @@ same-length-2 c = search needs
 
 returns : tie.Need-returns
 returns c =
-    let a = c .before .before .before .before .before .before .before .before .before .before .before .before .before .before .before .args in
-    let k = c .before .before .before .before .before .before .before .before .before .before .list-for in
-    counted (a .p .now) (a .room) (k .last .1 .1 .0) (c .before .before .before .before .before .before .outcome .given .0 .0) (sym (ap answerOf (c .before .before .before .before .before .before .outcome .given .1)) ∙ k .ensures .0) (k .ensures .1) (a .faults .now) _ (c .before .before .count-faults .result) (c .before .before .count-faults .ensures)
+    let a = c .before .before .before .before .before .before .before .before .before .before .before .before .before .before .before .before .before .before .before .before .args in
+    let k = c .before .before .before .before .before .before .before .before .before .before .before .before .before .before .before .list-for in
+    counted (a .p .now) (a .room) (k .last .1 .1 .0) (c .before .before .before .before .before .before .before .before .before .before .before .outcome .given .0 .0) (sym (ap answerOf (c .before .before .before .before .before .before .before .before .before .before .before .outcome .given .1)) ∙ k .ensures .0) (k .ensures .1) (a .faults .now) _ _ (c .before .before .before .before .before .before .before .count-faults .result) (c .before .before .before .before .before .before .before .count-faults .ensures) (c .before .before .name-objects .ensures)
 
 same-length-3 : tie.Need-same-length-3
 same-length-3 c = search needs
@@ -114,6 +126,9 @@ check-by-spec =
     slice-reshare-prefix-count-faults
     slice-aggregate-count-faults
     count-faults-requires
+    slice-reshare-prefix-name-objects
+    slice-aggregate-name-objects
+    name-objects-requires
     enum-told
     enum-told-2
     enum-known-outcome-2

@@ -2,7 +2,7 @@
 use mathlib.Core.Path.{_≡_, refl, _∙_}
 use mathlib.Core.List.{[], _∷_}
 use mathlib.Core.Logic.{⊎-elim}
-use Prim.Native.Nat.{_+_, _*_}
+use Prim.Native.Nat.{suc, _+_, _*_}
 use native.Mathlib.Numerals.{add-one, add-two}
 use native.Mathlib.Omega.{arith}
 use borrow.Author.Needs.{needs}
@@ -44,6 +44,24 @@ mul-buffer-3 c = search needs
 slice-write-buffer-3 : tie.Need-slice-write-buffer-3
 slice-write-buffer-3 c = simp length-set (omega arith)
 
+add-buffer-3 : tie.Need-add-buffer-3
+add-buffer-3 c = search needs
+
+mul-buffer-4 : tie.Need-mul-buffer-4
+mul-buffer-4 c = search needs
+
+slice-write-buffer-4 : tie.Need-slice-write-buffer-4
+slice-write-buffer-4 c = simp length-set (omega arith)
+
+add-buffer-4 : tie.Need-add-buffer-4
+add-buffer-4 c = search needs
+
+mul-buffer-5 : tie.Need-mul-buffer-5
+mul-buffer-5 c = search needs
+
+slice-write-buffer-5 : tie.Need-slice-write-buffer-5
+slice-write-buffer-5 c = simp length-set (omega arith)
+
 add-result : tie.Need-add-result
 add-result c = search needs
 
@@ -53,8 +71,10 @@ unfolding putAt
 put-there c =
     let a = c .before .args in
     let i = a .count * width in
+    let three : i + 3 ≡ suc (suc (suc i)) = omega arith in
+    let four : i + 4 ≡ suc (suc (suc (suc i))) = omega arith in
     ⊎-elim
-    (λ w. w .1 ∙ rw (le-leb (i + width) (length (a .buffer .now)) (omega (arith, w .0 .taken)), add-one i, add-two i))
+    (λ w. w .1 ∙ rw (le-leb (i + width) (length (a .buffer .now)) (omega (arith, w .0 .taken)), add-one i, add-two i, three, four))
     (λ w. w .1 ∙ rw (lt-leb (i + width) (length (a .buffer .now)) (omega (arith, w .0 .left))))
     (c .if1 .came)
 
@@ -83,6 +103,12 @@ put-spec =
     add-buffer-2
     mul-buffer-3
     slice-write-buffer-3
+    add-buffer-3
+    mul-buffer-4
+    slice-write-buffer-4
+    add-buffer-4
+    mul-buffer-5
+    slice-write-buffer-5
     add-result
     same-length
     returns)

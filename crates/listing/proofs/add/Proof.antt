@@ -17,7 +17,7 @@ add-result c = search needs
 returns : tie.Need-returns
 returns c =
     let a = c .before .before .before .args in
-    let long : length (a .line .now) ≡ 96 = search needs in
+    let long : length (a .line .now) ≡ 128 = search needs in
     (ap (take (a .n + length (a .s .now))) (c .copy .ensures .1) ∙ added (a .line .now) (a .n) (a .s .now) (omega arith), refl, omega (arith, long, c .copy .kept))
 
 pub add-spec : {M : Type 1} → statement M

@@ -22,7 +22,7 @@ returns c =
     let m = c .before .before .add .result in
     let line : List ℕ = c .before .before .add .last .0 in
     let few : length (digits (a .x)) ≤ 20 = twenty (a .x) (omega arith) in
-    let long : length line ≡ 96 = search needs in
+    let long : length line ≡ 128 = search needs in
     let next : c .put .result ≡ m + length (digits (a .x)) = c .put .ensures .1 ∙ goes-on line m (digits (a .x)) (omega arith) in (
       ap (λ (k : ℕ). take k (c .put .last .0)) next
           ∙ ap (take (m + length (digits (a .x)))) (c .put .ensures .0)

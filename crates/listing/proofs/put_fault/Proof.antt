@@ -29,6 +29,18 @@ slice-aggregate-add-number-3 c = search needs
 add-number-requires-3 : tie.Need-add-number-requires-3
 add-number-requires-3 c κs = search needs
 
+slice-aggregate-add-number-4 : tie.Need-slice-aggregate-add-number-4
+slice-aggregate-add-number-4 c = search needs
+
+add-number-requires-4 : tie.Need-add-number-requires-4
+add-number-requires-4 c κs = search needs
+
+slice-aggregate-add-number-5 : tie.Need-slice-aggregate-add-number-5
+slice-aggregate-add-number-5 c = search needs
+
+add-number-requires-5 : tie.Need-add-number-requires-5
+add-number-requires-5 c κs = search needs
+
 slice-aggregate-add : tie.Need-slice-aggregate-add
 slice-aggregate-add c = search needs
 
@@ -50,8 +62,8 @@ same-length c = search needs
 returns : tie.Need-returns
 unfolding faultLine
 returns c =
-    let a = c .before .before .before .before .before .before .before .before .before .before .before .before .before .before .before .before .before .before .args in
-    let line : take (c .before .before .before .before .before .add .result) (c .before .before .before .before .before .add .last .0) ≡ faultLine (a .number) (a .rule) (a .item) = c .before .before .before .before .before .add .ensures .0 ∙ ap (λ (l : List ℕ). l ++ newline) (c .before .before .before .before .before .before .before .before .add-number3 .ensures .0 ∙ ap (λ (l : List ℕ). l ++ space ++ digits (a .item)) (c .before .before .before .before .before .before .before .before .before .before .before .add-number2 .ensures .0 ∙ ap (λ (l : List ℕ). l ++ space ++ digits (a .rule)) (c .before .before .before .before .before .before .before .before .before .before .before .before .before .before .add-number .ensures .0))) in
+    let a = c .before .before .before .before .before .before .before .before .before .before .before .before .before .before .before .before .before .before .before .before .before .before .before .before .args in
+    let line : take (c .before .before .before .before .before .add .result) (c .before .before .before .before .before .add .last .0) ≡ faultLine (a .number) (a .rule) (a .item) (a .id) (a .parent) = c .before .before .before .before .before .add .ensures .0 ∙ ap (λ (l : List ℕ). l ++ newline) (c .before .before .before .before .before .before .before .before .add-number5 .ensures .0 ∙ ap (λ (l : List ℕ). l ++ space ++ digits (a .parent)) (c .before .before .before .before .before .before .before .before .before .before .before .add-number4 .ensures .0 ∙ ap (λ (l : List ℕ). l ++ space ++ digits (a .id)) (c .before .before .before .before .before .before .before .before .before .before .before .before .before .before .add-number3 .ensures .0 ∙ ap (λ (l : List ℕ). l ++ space ++ digits (a .item)) (c .before .before .before .before .before .before .before .before .before .before .before .before .before .before .before .before .before .add-number2 .ensures .0 ∙ ap (λ (l : List ℕ). l ++ space ++ digits (a .rule)) (c .before .before .before .before .before .before .before .before .before .before .before .before .before .before .before .before .before .before .before .before .add-number .ensures .0))))) in
     (c .before .before .lay .ensures .0 ∙ ap (laid (a .out .now) (a .at)) line, c .before .before .lay .ensures .1 ∙ ap (placeAfter (a .out .now) (a .at)) line)
 
 pub put-fault-spec : {M : Type 1} → statement M
@@ -64,6 +76,10 @@ put-fault-spec =
     add-number-requires-2
     slice-aggregate-add-number-3
     add-number-requires-3
+    slice-aggregate-add-number-4
+    add-number-requires-4
+    slice-aggregate-add-number-5
+    add-number-requires-5
     slice-aggregate-add
     add-requires
     array-share-prefix-line

@@ -7,7 +7,7 @@ use borrow.Author.Needs.{needs}
 use lib.ListN.{length, take}
 use Rattle.pool.specs.Answer.{Answer}
 use Rattle.pool.specs.Walk.{entriesOf}
-use Rattle.rules.specs.Table.{breachesOf}
+use Rattle.checker.specs.Checking.{reported}
 use Rattle.checker.specs.Checking.{checkOf, countOf}
 use Rattle.listing.specs.Lines.{countLine, refusedLine}
 use Rattle.pool_listing.specs.Listing.{recordLines, findings}
@@ -127,8 +127,8 @@ returns-2 c =
     let short : length (countLine n) ≤ 13 = count-short n small in
     let first = line-adds (a .out .now) 0 (countLine n) (omega (arith, c .before .before .before .before .before .before .before .before .before .before .before .before .before .before .before .before .before .before .before .before .before .before .before .before .before .before .before .before .before .pre .2)) (c .before .before .before .before .before .before .before .before .before .before .before .before .put-count .ensures) in
     let lines : List ℕ = recordLines (entriesOf p (take (n + 1) starts)) in
-    let last = c .before .before .put-findings .ensures .0 (breachesOf p) (held p starts z (k .ensures .2) n count (a .faults .now) _ (c .before .before .before .before .before .before .before .before .before .before .before .before .before .before .before .before .before .before .before .before .before .before .before .before .before .before .before .before .before .pre .1) (k .ensures .3)) (found p starts z (k .ensures .2) n count v (c .before .before .before .before .before .before .before .before .before .before .before .before .before .before .before .before .value-of .ensures ∙ ap (λ (x : Answer). x .value) (k .ensures .0))) in (
-      adds-same (whole p starts z (k .ensures .2) n count) (adds-then (countLine n ++ lines) (findings (breachesOf p)) (adds-then (countLine n) lines first (c .before .before .before .before .before .before .before .put-records .ensures .0)) last),
+    let last = c .before .before .put-findings .ensures .0 (reported p) (held p starts z (k .ensures .2) n count (a .faults .now) _ (c .before .before .before .before .before .before .before .before .before .before .before .before .before .before .before .before .before .before .before .before .before .before .before .before .before .before .before .before .before .pre .1) (k .ensures .3)) (found p starts z (k .ensures .2) n count v (c .before .before .before .before .before .before .before .before .before .before .before .before .before .before .before .before .value-of .ensures ∙ ap (λ (x : Answer). x .value) (k .ensures .0))) in (
+      adds-same (whole p starts z (k .ensures .2) n count) (adds-then (countLine n ++ lines) (findings (reported p)) (adds-then (countLine n) lines first (c .before .before .before .before .before .before .before .put-records .ensures .0)) last),
       omega (arith, first .place, size, c .before .before .before .before .before .before .before .put-records .ensures .1, c .before .before .put-findings .ensures .1),
     )
 

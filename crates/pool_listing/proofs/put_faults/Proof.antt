@@ -5,6 +5,7 @@ use Prim.Native.Nat.{ℕ, _+_, _*_, _-_, _≤_}
 use native.Mathlib.Omega.{arith}
 use borrow.Author.Needs.{needs}
 use lib.ListN.{length, getD}
+use Rattle.faults.specs.Faults.{width}
 use Rattle.listing.specs.Lines.{faultLine}
 use Rattle.pool_listing.specs.Listing.{faultLines}
 use Rattle.pool_listing.specs.Parts.{Adds, faultsIn}
@@ -16,7 +17,7 @@ use Rattle.pool_listing.proofs.put_faults.Tie as tie
 
 abbrev Inv-loop : tie.InvT-loop
 Inv-loop faults n out₀ from at₀ i₀ out at i =
-    (i ≤ n) × (length out ≡ length out₀) × Adds out₀ from (faultLines (faultsIn i faults)) out at × (at ≤ from + 24 * i)
+    (i ≤ n) × (length out ≡ length out₀) × Adds out₀ from (faultLines (faultsIn i faults)) out at × (at ≤ from + 36 * i)
 
 abbrev μ-loop : tie.MeasureT-loop
 μ-loop faults n out₀ from at₀ i₀ out at i = n - i
@@ -53,6 +54,24 @@ mul-put-fault-3 c = search needs
 shared-slice-read-put-fault-3 : tie.Need-shared-slice-read-put-fault-3 Inv-loop μ-loop
 shared-slice-read-put-fault-3 c = omega arith
 
+add-put-fault-3 : tie.Need-add-put-fault-3 Inv-loop μ-loop
+add-put-fault-3 c = omega arith
+
+mul-put-fault-4 : tie.Need-mul-put-fault-4 Inv-loop μ-loop
+mul-put-fault-4 c = search needs
+
+shared-slice-read-put-fault-4 : tie.Need-shared-slice-read-put-fault-4 Inv-loop μ-loop
+shared-slice-read-put-fault-4 c = omega arith
+
+add-put-fault-4 : tie.Need-add-put-fault-4 Inv-loop μ-loop
+add-put-fault-4 c = omega arith
+
+mul-put-fault-5 : tie.Need-mul-put-fault-5 Inv-loop μ-loop
+mul-put-fault-5 c = search needs
+
+shared-slice-read-put-fault-5 : tie.Need-shared-slice-read-put-fault-5 Inv-loop μ-loop
+shared-slice-read-put-fault-5 c = omega arith
+
 put-fault-requires : tie.Need-put-fault-requires Inv-loop μ-loop
 put-fault-requires c κs = search needs
 
@@ -64,11 +83,11 @@ loop-less c = omega arith
 
 loop-again : tie.Need-loop-again Inv-loop μ-loop
 loop-again c =
-    let b : List ℕ = c .before .before .before .before .before .before .before .before .before .before .before .args .faults .now in
-    let l = c .before .before .before .before .before .before .before .before .loop in
-    let k = 3 * l .i in
-    let line : List ℕ = faultLine (getD b k 0) (getD b (k + 1) 0) (getD b (k + 2) 0) in
-    let short : length line ≤ 24 = fault-short (getD b k 0) (getD b (k + 1) 0) (getD b (k + 2) 0) (omega (arith, c .before .before .before .before .before .shared-slice-known2 .given k)) (omega (arith, c .before .before .before .before .before .shared-slice-known2 .given (k + 1))) (omega (arith, c .before .before .before .before .before .shared-slice-known2 .given (k + 2))) in
+    let b : List ℕ = c .before .before .before .before .before .before .before .before .before .before .before .before .before .args .faults .now in
+    let l = c .before .before .before .before .before .before .before .before .before .before .loop in
+    let k = width * l .i in
+    let line : List ℕ = faultLine (getD b k 0) (getD b (k + 1) 0) (getD b (k + 2) 0) (getD b (k + 3) 0) (getD b (k + 4) 0) in
+    let short : length line ≤ 36 = fault-short (getD b k 0) (getD b (k + 1) 0) (getD b (k + 2) 0) (getD b (k + 3) 0) (getD b (k + 4) 0) (omega (arith, c .before .before .before .before .before .before .before .shared-slice-known2 .given k)) (omega (arith, c .before .before .before .before .before .before .before .shared-slice-known2 .given (k + 1))) (omega (arith, c .before .before .before .before .before .before .before .shared-slice-known2 .given (k + 2))) (omega (arith, c .before .before .before .before .before .before .before .shared-slice-known2 .given (k + 3))) (omega (arith, c .before .before .before .before .before .before .before .shared-slice-known2 .given (k + 4))) in
     let next = line-adds (l .out) (l .at) line (omega arith) (c .before .before .put-fault .ensures) in (
       omega arith,
       omega (arith, c .before .before .put-fault .kept),
@@ -101,6 +120,12 @@ put-faults-spec =
     add-put-fault-2
     mul-put-fault-3
     shared-slice-read-put-fault-3
+    add-put-fault-3
+    mul-put-fault-4
+    shared-slice-read-put-fault-4
+    add-put-fault-4
+    mul-put-fault-5
+    shared-slice-read-put-fault-5
     put-fault-requires
     add-i
     loop-less

@@ -4,7 +4,7 @@ use mathlib.Core.List.{List}
 use native.Mathlib.Omega.{arith}
 use borrow.Author.Needs.{needs}
 use lib.ListN.{length}
-use Rattle.faults.specs.Faults.{Fault}
+use Rattle.faults.specs.Faults.{FaultEntry}
 use Rattle.listing.specs.Lines.{acceptedLine}
 use Rattle.pool_listing.specs.Listing.{faultLines}
 use Rattle.pool_listing.specs.Parts.{Held}
@@ -25,7 +25,7 @@ returns c =
     let a = c .before .before .before .before .before .before .before .args in
     let short = accepted-short in
     let next = line-adds (a .out .now) (a .from) acceptedLine (omega arith) (c .before .before .put-accepted .ensures) in
-    (λ (fs : List Fault) (h : Held (a .faults .now) fs) (e : a .found ≡ length fs). adds-same (none-found fs (sym (c .before .before .before .before .if1 .taken) ∙ e)) next, omega (arith, next .place))
+    (λ (fs : List FaultEntry) (h : Held (a .faults .now) fs) (e : a .found ≡ length fs). adds-same (none-found fs (sym (c .before .before .before .before .if1 .taken) ∙ e)) next, omega (arith, next .place))
 
 put-faults-requires : tie.Need-put-faults-requires
 put-faults-requires c κs = search needs
@@ -36,7 +36,7 @@ same-length-2 c = search needs
 returns-2 : tie.Need-returns-2
 returns-2 c =
     let a = c .before .before .before .before .before .before .before .before .args in (
-      λ (fs : List Fault) (h : Held (a .faults .now) fs) (e : a .found ≡ length fs). adds-same (ap faultLines (all-shown (a .faults .now) fs h (a .found) e (c .before .before .before .before .if2 .taken)) ∙ some-found fs (λ (z : length fs ≡ 0). c .before .before .before .before .before .if1 .left (e ∙ z))) (c .before .before .put-faults .ensures .0),
+      λ (fs : List FaultEntry) (h : Held (a .faults .now) fs) (e : a .found ≡ length fs). adds-same (ap faultLines (all-shown (a .faults .now) fs h (a .found) e (c .before .before .before .before .if2 .taken)) ∙ some-found fs (λ (z : length fs ≡ 0). c .before .before .before .before .before .if1 .left (e ∙ z))) (c .before .before .put-faults .ensures .0),
       omega arith,
     )
 
@@ -49,7 +49,7 @@ same-length-3 c = search needs
 returns-3 : tie.Need-returns-3
 returns-3 c =
     let a = c .before .before .before .before .before .before .before .before .args in (
-      λ (fs : List Fault) (h : Held (a .faults .now) fs) (e : a .found ≡ length fs). adds-same (ap faultLines (first-shown (a .faults .now) fs h (omega arith)) ∙ some-found fs (λ (z : length fs ≡ 0). c .before .before .before .before .before .if1 .left (e ∙ z))) (c .before .before .put-faults2 .ensures .0),
+      λ (fs : List FaultEntry) (h : Held (a .faults .now) fs) (e : a .found ≡ length fs). adds-same (ap faultLines (first-shown (a .faults .now) fs h (omega arith)) ∙ some-found fs (λ (z : length fs ≡ 0). c .before .before .before .before .before .if1 .left (e ∙ z))) (c .before .before .put-faults2 .ensures .0),
       omega arith,
     )
 

@@ -36,9 +36,12 @@ add-pair c = search needs
 pair-requires : tie.Need-pair-requires
 pair-requires c κs = search needs
 
+parent-id-requires : tie.Need-parent-id-requires
+parent-id-requires c κs = search needs
+
 returns : tie.Need-returns
 unfolding rowIn idOf
-returns c = rw (c .before .kind-number .ensures, c .pair .ensures, add-one (c .before .before .before .before .before .before .args .i))
+returns c = rw (c .before .before .kind-number .ensures, c .before .pair .ensures, c .parent-id .ensures, add-one (c .before .before .before .before .before .before .before .args .i))
 
 pub row-at-spec : {M : Type 1} → statement M
 row-at-spec =
@@ -54,4 +57,5 @@ row-at-spec =
     cast-pair
     add-pair
     pair-requires
+    parent-id-requires
     returns)
