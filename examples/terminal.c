@@ -113,8 +113,8 @@ static void show_records(size_t pool_length)
     expect("check",
            lachsbrille_check(kept, table[3].start, table, ENTRIES, faults, sizeof faults / sizeof *faults, &count),
            LACHSBRILLE_OK);
-    printf("the first three records alone have %zu faults, the first: record %u rule %u item %u\n", count,
-           (unsigned)faults[0], (unsigned)faults[1], (unsigned)faults[2]);
+    printf("the first three records alone have %zu faults, the first: record %u rule %u item %u, ID %u under parent %u\n", count,
+           (unsigned)faults[0], (unsigned)faults[1], (unsigned)faults[2], (unsigned)faults[3], (unsigned)faults[4]);
 }
 
 /* ---- The device: the fields of its records, by the table ---- */

@@ -60,7 +60,7 @@ extern "C" {
 /* ---- Numbers ------------------------------------------------------------------------------------------------------- */
 
 /** The release that this header belongs to: major * 10,000 + minor * 100 + patch. lachsbrille_version gives that of the library. */
-#define LACHSBRILLE_VERSION 10000u
+#define LACHSBRILLE_VERSION 20000u
 
 /** Why a call is refused. docs/REFUSALS.md has a line for each, with its cause and what to do about it. */
 enum lachsbrille_refusal {
@@ -161,7 +161,7 @@ enum lachsbrille_layout {
 /** Sizes. */
 enum lachsbrille_size {
     LACHSBRILLE_RECORDS_MOST = 5461,   /**< most records of a pool, of at least 12 bytes each: such a table is never too short */
-    LACHSBRILLE_FAULT_WORDS = 3,       /**< words of a fault in the fault buffer */
+    LACHSBRILLE_FAULT_WORDS = 5,       /**< words of a fault in the fault buffer */
     LACHSBRILLE_MESSAGE_LENGTH = 8,    /**< bytes of a message */
     LACHSBRILLE_ELEMENT_MOST = 4095,   /**< the greatest element number */
     LACHSBRILLE_LOG_VALUES_MOST = 255, /**< values of a log record */
@@ -171,7 +171,10 @@ enum lachsbrille_size {
 /** The most bytes that a pool may have. Not an enumerator, since an int may be too narrow for it. */
 #define LACHSBRILLE_POOL_MOST 65535u
 
-/** The ID of no record: a presentation of this ID means none. */
+/**
+ * The ID of no record. A presentation of this ID means none. It is also the parent of a record whose kind has none, and both the ID and
+ * the parent of a fault of the whole pool.
+ */
 #define LACHSBRILLE_NO_ID 65535u
 
 /** The release of the library: LACHSBRILLE_VERSION of its header. */
@@ -183,8 +186,9 @@ uint32_t lachsbrille_version(void);
 typedef struct lachsbrille_record {
     uint16_t start;
     uint16_t length;
-    uint16_t kind; /**< enum lachsbrille_kind */
+    uint16_t kind;   /**< enum lachsbrille_kind */
     uint16_t id;
+    uint16_t parent; /**< a device element's parent ID as it stands in the pool, whatever it names; LACHSBRILLE_NO_ID for other kinds */
 } lachsbrille_record;
 
 /** The labels of a device. */
@@ -211,10 +215,12 @@ uint32_t lachsbrille_read(const uint8_t *pool, size_t pool_length,
 /**
  * Checks a pool against the rule table. docs/REFUSALS.md has the rules and their items.
  *
- * The fault buffer is words: record, rule and item of the first fault, then of the second, and so on. Its length counts words.
+ * The fault buffer is words, five for each fault: record, rule, item, and the ID and parent of that record as its table entry has them,
+ * also where they are what is wrong. For the whole pool the record is 0, and ID and parent are LACHSBRILLE_NO_ID. The buffer's length
+ * counts words, so it has room for length / LACHSBRILLE_FAULT_WORDS faults.
  *
  * 0: `value` is the full count of faults; a pool is accepted if it is 0. The buffer starts with the faults in the order of
- * record, rule and item, as many whole ones as fit; its other words are left as they were, also one or two at its end that are too
+ * record, rule and item, as many whole ones as fit; its other words are left as they were, also up to four at its end that are too
  * few for a fault. The table is filled as in reading.
  * 1 to 7: as in reading, and the buffer is left as it was.
  */
@@ -348,7 +354,8 @@ typedef struct lachsbrille_session {
 
 /**
  * What a session call returns: the session value after it, and its answer. After a refusal `session` is the value that was passed,
- * except where activating says otherwise. `place`, `record`, `rule` and `item` are 0 unless activating sets them.
+ * except where activating says otherwise. `place` and the five numbers of a fault, `record` to `parent`, are 0 unless activating sets
+ * them: an answer without a fault has ID and parent 0 and not LACHSBRILLE_NO_ID.
  */
 typedef struct lachsbrille_step {
     lachsbrille_session session;
@@ -357,6 +364,8 @@ typedef struct lachsbrille_step {
     uint16_t record;
     uint16_t rule;
     uint16_t item;
+    uint16_t id;     /**< of the fault's record */
+    uint16_t parent; /**< of the fault's record */
 } lachsbrille_step;
 
 /** A new session: nothing offered, kept or active. */
@@ -395,8 +404,9 @@ void lachsbrille_session_transfer(lachsbrille_step *out, lachsbrille_session ses
  * 26: the kept area is shorter than the pool, or, if a pool is offered, staging is. An offer stands.
  * 3 to 6: the pool is not read, `place` as in reading. The offer is over. (1 and 2 cannot occur, since the size was judged.)
  * 7: the table is too short, `place` says how many entries it needs. The offer stands: try again with a longer table.
- * 24: the pool has a fault; `record`, `rule` and `item` are its first one. The offer is over. The table is filled. Staging still
- * starts with the pool: lachsbrille_check of staging, with the size that was offered, lists the other faults.
+ * 24: the pool has a fault; `record`, `rule`, `item`, `id` and `parent` are its first one, as checking gives it. The offer is over.
+ * The table is filled. Staging still starts with the pool: lachsbrille_check of staging, with the size that was offered, lists the
+ * other faults.
  * After every refusal the kept area, the kept size and `active` are as they were: the earlier pool remains in force.
  */
 void lachsbrille_session_activate(lachsbrille_step *out, lachsbrille_session session,

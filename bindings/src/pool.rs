@@ -2,7 +2,7 @@
 
 use crate::c;
 use crate::c::Record;
-use crate::Cause;
+use crate::{Cause, NO_ID};
 use core::error::Error;
 use core::fmt;
 use core::slice;
@@ -35,6 +35,12 @@ impl Record {
             _ => None,
         }
     }
+
+    /// A device element's parent ID as it stands in the pool, whatever it names
+    /// and even if it is [`NO_ID`]; `None` for kinds without a parent.
+    pub fn parent(&self) -> Option<u16> {
+        (self.kind() == Some(Kind::DeviceElement)).then_some(self.parent)
+    }
 }
 
 /// A breach of the rule table. Records count from 1; record 0 is the whole
@@ -46,24 +52,42 @@ pub struct Fault {
     pub record: u16,
     pub rule: u16,
     pub item: u16,
+    /// ID of the record; [`NO_ID`] for the whole pool.
+    pub id: u16,
+    /// Parent ID of the record, as its table entry has it: [`NO_ID`] for kinds
+    /// without a parent, and for the whole pool.
+    pub parent: u16,
 }
 
 impl Fault {
-    const WORDS: usize = 3;
+    /// How many words a fault has.
+    pub const WORDS: usize = 5;
 
     /// The fault buffer as C takes it.
     fn words(faults: &mut [Fault]) -> &mut [u16] {
         let length = Fault::WORDS * faults.len();
-        // SAFETY: a fault is three words without padding, and any words are a
-        // valid fault.
+        // SAFETY: a fault is five words without padding, is aligned like a
+        // word, and any words are a valid fault.
         unsafe { slice::from_raw_parts_mut(faults.as_mut_ptr().cast(), length) }
     }
 }
 
+/// Names the object first, then the rule.
 impl fmt::Display for Fault {
     fn fmt(&self, f: &mut fmt::Formatter) -> fmt::Result {
-        let Fault { record, rule, item } = self;
-        write!(f, "record {record}, rule {rule}, item {item}")
+        let Fault {
+            record,
+            rule,
+            item,
+            id,
+            parent,
+        } = *self;
+        match (record, parent) {
+            (0, _) => write!(f, "the whole pool")?,
+            (_, NO_ID) => write!(f, "ID {id}, record {record}")?,
+            _ => write!(f, "ID {id} under parent {parent}, record {record}")?,
+        }
+        write!(f, ", rule {rule}, item {item}")
     }
 }
 
@@ -189,28 +213,56 @@ mod tests {
         length: 9_002,
         kind: 9_003,
         id: 9_004,
+        parent: 9_005,
     };
     const NO_FAULT: Fault = Fault {
-        record: 9_005,
-        rule: 9_006,
-        item: 9_007,
+        record: 9_006,
+        rule: 9_007,
+        item: 9_008,
+        id: 9_009,
+        parent: 9_010,
     };
+
+    fn fault(record: u16, rule: u16, item: u16, id: u16, parent: u16) -> Fault {
+        Fault {
+            record,
+            rule,
+            item,
+            id,
+            parent,
+        }
+    }
 
     #[test]
     fn a_pool_is_read_into_the_table() {
         let mut table = [UNTOUCHED; 5];
         assert_eq!(read(&q(), &mut table), Ok(4));
-        let rows = table.map(|it| (it.start, it.length, it.kind(), it.id));
+        let rows = table.map(|it| (it.start, it.length, it.kind(), it.id, it.parent()));
         assert_eq!(
             rows[..4],
             [
-                (0, 31, Some(Kind::Device), 0),
-                (31, 13, Some(Kind::DeviceElement), 1),
-                (44, 15, Some(Kind::DeviceElement), 2),
-                (59, 12, Some(Kind::ProcessData), 3),
+                (0, 31, Some(Kind::Device), 0, None),
+                (31, 13, Some(Kind::DeviceElement), 1, Some(0)),
+                (44, 15, Some(Kind::DeviceElement), 2, Some(1)),
+                (59, 12, Some(Kind::ProcessData), 3, None),
             ]
         );
         assert_eq!(table[4], UNTOUCHED);
+    }
+
+    #[test]
+    fn a_parent_is_given_as_it_stands() {
+        // A parent that names nothing, and a record of each other kind.
+        let mut pool = crate::pools::walked();
+        pool[44..46].fill(0xFF);
+        let mut table = [UNTOUCHED; 6];
+        assert_eq!(read(&pool, &mut table), Ok(5));
+        let parents = table.map(|it| (it.parent, it.parent()));
+        let none = (NO_ID, None);
+        let expected = [none, (NO_ID, Some(NO_ID)), none, none, none];
+        assert_eq!(parents[..5], expected);
+        // No call has written the last entry, and its kind is none.
+        assert_eq!(parents[5], (9_005, None));
     }
 
     #[test]
@@ -242,16 +294,37 @@ mod tests {
         assert_eq!(check(&q(), &mut table, &mut faults), Ok(0));
         assert_eq!(faults, [NO_FAULT; 2]);
         assert_eq!(check(&q()[..59], &mut table, &mut faults), Ok(1));
-        let fault = Fault {
-            record: 3,
-            rule: 6,
-            item: 2,
-        };
-        assert_eq!(faults, [fault, NO_FAULT]);
+        assert_eq!(faults, [fault(3, 6, 2, 2, 1), NO_FAULT]);
         // An element that is its own parent.
         let mut own = p();
         own[40] = 1;
         assert_eq!(check(&own, &mut table, &mut []), Ok(1));
+    }
+
+    #[test]
+    fn a_fault_names_its_object() {
+        // Without the device, with a text that is not UTF-8 and with an unknown
+        // type of element.
+        let mut pool = crate::pools::walked().split_off(31);
+        pool[5] = 0;
+        pool[32] = 0xFF;
+        let mut faults = [NO_FAULT; 6];
+        assert_eq!(check(&pool, &mut [UNTOUCHED; 4], &mut faults), Ok(5));
+        let expected = [
+            fault(0, 10, 1, NO_ID, NO_ID),
+            fault(0, 11, 1, NO_ID, NO_ID),
+            fault(1, 5, 1, 0x0201, 0),
+            fault(1, 6, 1, 0x0201, 0),
+            fault(2, 4, 1, 0x0203, NO_ID),
+            NO_FAULT,
+        ];
+        assert_eq!(faults, expected);
+        let said = "the whole pool, rule 10, item 1";
+        assert_eq!(faults[0].to_string(), said);
+        let said = "ID 513 under parent 0, record 1, rule 5, item 1";
+        assert_eq!(faults[2].to_string(), said);
+        let said = "ID 515, record 2, rule 4, item 1";
+        assert_eq!(faults[4].to_string(), said);
     }
 
     #[test]
@@ -288,9 +361,20 @@ mod tests {
 
     #[test]
     fn words_are_lent_as_a_table() {
-        let mut words = [7; 9];
+        let mut words = [7; 14];
         assert_eq!(read(&p(), Record::table(&mut words)), Ok(2));
-        assert_eq!(words, [0, 31, 1, 0, 31, 13, 2, 1, 7]);
-        assert!(Record::table(&mut words[..3]).is_empty());
+        let expected = [0, 31, 1, 0, NO_ID, 31, 13, 2, 1, 0, 7, 7, 7, 7];
+        assert_eq!(words, expected);
+        assert!(Record::table(&mut words[..4]).is_empty());
+    }
+
+    #[test]
+    fn faults_are_lent_as_words() {
+        let mut faults = [fault(1, 2, 3, 4, 5), fault(6, 7, 8, 9, 10)];
+        let words = Fault::words(&mut faults);
+        assert_eq!(words, [1, 2, 3, 4, 5, 6, 7, 8, 9, 10]);
+        words[9] = 11;
+        assert_eq!(faults[1], fault(6, 7, 8, 9, 11));
+        assert!(Fault::words(&mut []).is_empty());
     }
 }

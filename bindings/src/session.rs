@@ -137,6 +137,8 @@ impl Session {
                 record: step.record,
                 rule: step.rule,
                 item: step.item,
+                id: step.id,
+                parent: step.parent,
             }),
         })
     }
@@ -201,6 +203,8 @@ mod tests {
             record: 3,
             rule: 6,
             item: 2,
+            id: 2,
+            parent: 1,
         };
         assert_eq!(
             refusal,
@@ -212,7 +216,7 @@ mod tests {
         );
         assert_eq!(
             refusal.unwrap_err().to_string(),
-            "24: the pool has a fault: record 3, rule 6, item 2"
+            "24: the pool has a fault: ID 2 under parent 1, record 3, rule 6, item 2"
         );
         assert_eq!(kept, [7; AREA]);
         assert!(!session.is_offered());

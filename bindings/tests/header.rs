@@ -1,9 +1,10 @@
 //! The header, the Rattle sources and the declarations of the bindings have
 //! the same functions, structs and numbers, name by name and type by type.
 
-use lachsbrille::{commands, errors, log::layout, version, Cause, NO_ID};
+use lachsbrille::{commands, errors, log::layout, version, Cause, Fault, Record, NO_ID};
 use std::collections::BTreeMap;
 use std::fs;
+use std::mem;
 use std::path::{Path, PathBuf};
 
 /// Structs that cross the boundary: the crate and the name they have in
@@ -113,6 +114,23 @@ fn versions_are_the_same() {
     let (major, minor, patch) = (number / 10_000, number / 100 % 100, number % 100);
     let package = format!("{major}.{minor}.{patch}");
     assert_eq!(env!("CARGO_PKG_VERSION"), package);
+}
+
+/// The fields of a record and of a fault are words, and have no other parts.
+#[test]
+fn words_are_the_same() {
+    let words = enumerators("lachsbrille_size")["LACHSBRILLE_FAULT_WORDS"];
+    assert_eq!(Fault::WORDS as i64, words);
+    let width = format!("pub const WIDTH: usize = {words};");
+    assert!(read("crates/faults/src/lib.rt").contains(&width));
+    assert_eq!(
+        mem::size_of::<Fault>(),
+        Fault::WORDS * mem::size_of::<u16>()
+    );
+    assert_eq!(mem::align_of::<Fault>(), mem::align_of::<u16>());
+    let fields = &structs_of_header()["lachsbrille_record"];
+    assert_eq!(Record::WORDS, fields.len());
+    assert!(fields.iter().all(|field| field.starts_with("uint16_t ")));
 }
 
 #[test]

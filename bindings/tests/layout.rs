@@ -41,7 +41,7 @@ fn c_name(field: &str) -> &str {
 fn structs_have_c_s_layout() {
     let mut lines = Vec::new();
     lines! { lines,
-        Record "lachsbrille_record" { start length kind id }
+        Record "lachsbrille_record" { start length kind id parent }
         DeviceLabels "lachsbrille_device_labels" {
             number structure localization extended extended_length
         }
@@ -56,7 +56,7 @@ fn structs_have_c_s_layout() {
         Property "lachsbrille_property" { ddi value designator presentation }
         Presentation "lachsbrille_presentation" { offset scale decimals unit }
         Session "lachsbrille_session" { announced received kept stage active }
-        Step "lachsbrille_step" { session place number record rule item }
+        Step "lachsbrille_step" { session place number record rule item id parent }
         MessageFields "lachsbrille_message_fields" {
             number value element ddi command errors answered
         }

@@ -7,11 +7,28 @@ use crate::shape::KINDS;
 use crate::wording::unsound_text;
 use second::{Fault, Kind};
 
-/// Makes a change and gives a fault that the pool then has; the change may
-/// cause others too.
-type Breach = fn(&mut Random, &mut Vec<Object>) -> Fault;
+/// What a fault is, without the IDs that follow from its record.
+#[derive(Clone, Copy, Debug, PartialEq, Eq)]
+pub struct Breach {
+    pub record: u16,
+    pub rule: u8,
+    pub item: u16,
+}
 
-const BREACHES: [Breach; 22] = [
+impl Breach {
+    pub fn of(fault: &Fault) -> Self {
+        let Fault {
+            record, rule, item, ..
+        } = *fault;
+        Breach { record, rule, item }
+    }
+}
+
+/// Makes a change and gives a breach that the pool then has; the change may
+/// cause others too.
+type Way = fn(&mut Random, &mut Vec<Object>) -> Breach;
+
+const BREACHES: [Way; 22] = [
     own_id,
     repeated_id,
     another_device,
@@ -59,18 +76,18 @@ pub const UNFIT_SCALES: [u32; 16] = [
 ];
 
 /// Breaches a rule in a random way.
-pub fn breach(random: &mut Random, objects: &mut Vec<Object>) -> Fault {
+pub fn breach(random: &mut Random, objects: &mut Vec<Object>) -> Breach {
     let way = random.below(WAYS);
     breach_in_way(way, random, objects)
 }
 
 /// Breaches a rule in the given way.
-pub fn breach_in_way(way: usize, random: &mut Random, objects: &mut Vec<Object>) -> Fault {
+pub fn breach_in_way(way: usize, random: &mut Random, objects: &mut Vec<Object>) -> Breach {
     BREACHES[way](random, objects)
 }
 
-fn fault(index: usize, rule: u8, item: usize) -> Fault {
-    Fault {
+fn breach_of(index: usize, rule: u8, item: usize) -> Breach {
+    Breach {
         record: index as u16 + 1,
         rule,
         item: item as u16,
@@ -140,7 +157,7 @@ fn name_of_none(random: &mut Random, objects: &mut [Object]) -> u16 {
     }
 }
 
-fn own_id(random: &mut Random, objects: &mut Vec<Object>) -> Fault {
+fn own_id(random: &mut Random, objects: &mut Vec<Object>) -> Breach {
     let kind = random.pick(&KINDS);
     let index = some(random, objects, kind);
     let carried = objects[random.below(objects.len())].id.max(1);
@@ -148,10 +165,10 @@ fn own_id(random: &mut Random, objects: &mut Vec<Object>) -> Fault {
         Kind::Dvc => random.pick(&[1, 256, carried, 65_534, 65_535]),
         _ => random.pick(&[0, 65_535]),
     };
-    fault(index, 1, 1)
+    breach_of(index, 1, 1)
 }
 
-fn repeated_id(random: &mut Random, objects: &mut Vec<Object>) -> Fault {
+fn repeated_id(random: &mut Random, objects: &mut Vec<Object>) -> Breach {
     provide(random, objects, &KINDS, 2);
     let later = random.between(1, objects.len() - 1);
     let earlier = random.below(later);
@@ -159,20 +176,20 @@ fn repeated_id(random: &mut Random, objects: &mut Vec<Object>) -> Fault {
         objects[earlier].id = NO_REFERENCE;
     }
     objects[later].id = objects[earlier].id;
-    fault(later, 2, 1)
+    breach_of(later, 2, 1)
 }
 
-fn another_device(random: &mut Random, objects: &mut Vec<Object>) -> Fault {
+fn another_device(random: &mut Random, objects: &mut Vec<Object>) -> Breach {
     let mut device = fresh(random, objects, Kind::Dvc);
     if random.one_in(2) {
         device.id = unused_id(random, objects);
     }
     objects.insert(random.below(objects.len() + 1), device);
     let (_, later) = two(random, objects, Kind::Dvc);
-    fault(later, 3, 1)
+    breach_of(later, 3, 1)
 }
 
-fn text(random: &mut Random, objects: &mut Vec<Object>) -> Fault {
+fn text(random: &mut Random, objects: &mut Vec<Object>) -> Breach {
     let kind = random.pick(&[
         Kind::Dvc,
         Kind::Dvc,
@@ -184,11 +201,11 @@ fn text(random: &mut Random, objects: &mut Vec<Object>) -> Fault {
     let index = some(random, objects, kind);
     let place = random.below(objects[index].text_count());
     objects[index].texts[place] = unsound_text(random);
-    fault(index, 4, place + 1)
+    breach_of(index, 4, place + 1)
 }
 
 /// Spoils one byte of a label, half the time more of them.
-fn label_bytes(random: &mut Random, objects: &mut Vec<Object>) -> Fault {
+fn label_bytes(random: &mut Random, objects: &mut Vec<Object>) -> Breach {
     let index = some(random, objects, Kind::Dvc);
     let item = random.between(1, 14);
     let many = random.one_in(2);
@@ -197,7 +214,7 @@ fn label_bytes(random: &mut Random, objects: &mut Vec<Object>) -> Fault {
             spoil_label(random, &mut objects[index], other);
         }
     }
-    fault(index, 5, item)
+    breach_of(index, 5, item)
 }
 
 fn spoil_label(random: &mut Random, device: &mut Object, item: usize) {
@@ -208,91 +225,91 @@ fn spoil_label(random: &mut Random, device: &mut Object, item: usize) {
     }
 }
 
-fn element_type(random: &mut Random, objects: &mut Vec<Object>) -> Fault {
+fn element_type(random: &mut Random, objects: &mut Vec<Object>) -> Breach {
     let index = some(random, objects, Kind::Det);
     objects[index].element_type = random.pick(&[0, 8, 9, 127, 128, 129, 255]);
-    fault(index, 5, 1)
+    breach_of(index, 5, 1)
 }
 
-fn element_number(random: &mut Random, objects: &mut Vec<Object>) -> Fault {
+fn element_number(random: &mut Random, objects: &mut Vec<Object>) -> Breach {
     let index = some(random, objects, Kind::Det);
     let any = random.between(4_096, 65_535) as u16;
     objects[index].number = random.pick(&[GREATEST_NUMBER + 1, 4_097, 8_191, any, 65_535]);
-    fault(index, 5, 2)
+    breach_of(index, 5, 2)
 }
 
-fn properties(random: &mut Random, objects: &mut Vec<Object>) -> Fault {
+fn properties(random: &mut Random, objects: &mut Vec<Object>) -> Breach {
     let index = some(random, objects, Kind::Dpd);
     if random.one_in(2) {
         objects[index].properties |= 1 << random.between(3, 7);
-        return fault(index, 5, 1);
+        return breach_of(index, 5, 1);
     }
     objects[index].properties |= 0b110;
-    fault(index, 5, 2)
+    breach_of(index, 5, 2)
 }
 
-fn triggers(random: &mut Random, objects: &mut Vec<Object>) -> Fault {
+fn triggers(random: &mut Random, objects: &mut Vec<Object>) -> Breach {
     let index = some(random, objects, Kind::Dpd);
     objects[index].triggers |= 1 << random.between(5, 7);
-    fault(index, 5, 3)
+    breach_of(index, 5, 3)
 }
 
-fn scale(random: &mut Random, objects: &mut Vec<Object>) -> Fault {
+fn scale(random: &mut Random, objects: &mut Vec<Object>) -> Breach {
     let index = some(random, objects, Kind::Dvp);
     objects[index].scale_bits = random.pick(&UNFIT_SCALES);
-    fault(index, 5, 1)
+    breach_of(index, 5, 1)
 }
 
-fn decimals(random: &mut Random, objects: &mut Vec<Object>) -> Fault {
+fn decimals(random: &mut Random, objects: &mut Vec<Object>) -> Breach {
     let index = some(random, objects, Kind::Dvp);
     objects[index].decimals = random.pick(&[8, 9, 15, 128, 255]);
-    fault(index, 5, 2)
+    breach_of(index, 5, 2)
 }
 
-fn missing_parent(random: &mut Random, objects: &mut Vec<Object>) -> Fault {
+fn missing_parent(random: &mut Random, objects: &mut Vec<Object>) -> Breach {
     let index = some(random, objects, Kind::Det);
     objects[index].parent = name_of_none(random, objects);
-    fault(index, 6, 1)
+    breach_of(index, 6, 1)
 }
 
-fn missing_entry(random: &mut Random, objects: &mut Vec<Object>) -> Fault {
+fn missing_entry(random: &mut Random, objects: &mut Vec<Object>) -> Breach {
     let index = some(random, objects, Kind::Det);
     let id = name_of_none(random, objects);
     let place = put_entry(random, &mut objects[index].entries, id);
-    fault(index, 6, place + 2)
+    breach_of(index, 6, place + 2)
 }
 
-fn missing_presentation(random: &mut Random, objects: &mut Vec<Object>) -> Fault {
+fn missing_presentation(random: &mut Random, objects: &mut Vec<Object>) -> Breach {
     let kind = random.pick(&[Kind::Dpd, Kind::Dpt]);
     let index = some(random, objects, kind);
     objects[index].presentation = unused_id(random, objects);
-    fault(index, 6, 1)
+    breach_of(index, 6, 1)
 }
 
-fn wrong_parent(random: &mut Random, objects: &mut Vec<Object>) -> Fault {
+fn wrong_parent(random: &mut Random, objects: &mut Vec<Object>) -> Breach {
     let kind = random.pick(&[Kind::Dpd, Kind::Dpt, Kind::Dvp]);
     provide(random, objects, &[kind], 1);
     let index = some(random, objects, Kind::Det);
     objects[index].parent = name_of_any(random, objects, &[kind]);
-    fault(index, 7, 1)
+    breach_of(index, 7, 1)
 }
 
-fn wrong_entry(random: &mut Random, objects: &mut Vec<Object>) -> Fault {
+fn wrong_entry(random: &mut Random, objects: &mut Vec<Object>) -> Breach {
     let kind = random.pick(&[Kind::Dvc, Kind::Det, Kind::Dvp]);
     provide(random, objects, &[kind], 1);
     let index = some(random, objects, Kind::Det);
     let id = name_of_any(random, objects, &[kind]);
     let place = put_entry(random, &mut objects[index].entries, id);
-    fault(index, 7, place + 2)
+    breach_of(index, 7, place + 2)
 }
 
-fn wrong_presentation(random: &mut Random, objects: &mut Vec<Object>) -> Fault {
+fn wrong_presentation(random: &mut Random, objects: &mut Vec<Object>) -> Breach {
     let target = random.pick(&[Kind::Dvc, Kind::Det, Kind::Dpd, Kind::Dpt]);
     let kind = random.pick(&[Kind::Dpd, Kind::Dpt]);
     provide(random, objects, &[target], 1);
     let index = some(random, objects, kind);
     objects[index].presentation = name_of_any(random, objects, &[target]);
-    fault(index, 7, 1)
+    breach_of(index, 7, 1)
 }
 
 /// Puts an ID into a list, in place of another one or between two, and gives
@@ -308,18 +325,18 @@ fn put_entry(random: &mut Random, entries: &mut Vec<u16>, id: u16) -> usize {
     place
 }
 
-fn repeated_number(random: &mut Random, objects: &mut Vec<Object>) -> Fault {
+fn repeated_number(random: &mut Random, objects: &mut Vec<Object>) -> Breach {
     let (earlier, later) = two(random, objects, Kind::Det);
     if random.one_in(4) {
         objects[earlier].number = random.pick(&[4_096, 8_192, 65_535]);
     }
     objects[later].number = objects[earlier].number;
-    fault(later, 8, 1)
+    breach_of(later, 8, 1)
 }
 
 /// Makes a device element the parent of one above it, or of itself. The chains
 /// of all elements below now lead into a ring.
-fn ring(random: &mut Random, objects: &mut Vec<Object>) -> Fault {
+fn ring(random: &mut Random, objects: &mut Vec<Object>) -> Breach {
     let below = some(random, objects, Kind::Det);
     let mut above = below;
     for _ in 0..random.pick(&[0, 1, 1, 2, 5, 1_000]) {
@@ -330,11 +347,11 @@ fn ring(random: &mut Random, objects: &mut Vec<Object>) -> Fault {
     }
     let id = name_of(random, objects, below);
     objects[above].parent = id;
-    fault(above, 9, 1)
+    breach_of(above, 9, 1)
 }
 
 /// Removes from the pool what every pool must have.
-fn whole_pool(random: &mut Random, objects: &mut Vec<Object>) -> Fault {
+fn whole_pool(random: &mut Random, objects: &mut Vec<Object>) -> Breach {
     // Some record has to remain.
     provide(random, objects, &[Kind::Dvp], 1);
     let rule = random.pick(&[10, 11]);
@@ -347,7 +364,7 @@ fn whole_pool(random: &mut Random, objects: &mut Vec<Object>) -> Fault {
             roots.for_each(|it| it.element_type = other);
         }
     }
-    Fault {
+    Breach {
         record: 0,
         rule,
         item: 1,
@@ -356,7 +373,7 @@ fn whole_pool(random: &mut Random, objects: &mut Vec<Object>) -> Fault {
 
 /// Puts two entries with one DDI into a list, and often others between them
 /// that name nothing or a wrong kind.
-fn repeated_ddi(random: &mut Random, objects: &mut Vec<Object>) -> Fault {
+fn repeated_ddi(random: &mut Random, objects: &mut Vec<Object>) -> Breach {
     const DATA: [Kind; 2] = [Kind::Dpd, Kind::Dpt];
     provide(random, objects, &DATA, 2);
     let index = some(random, objects, Kind::Det);
@@ -376,7 +393,7 @@ fn repeated_ddi(random: &mut Random, objects: &mut Vec<Object>) -> Fault {
     let place = random.below(entries.len() + 1);
     let last = place + ids.len() - 1;
     entries.splice(place..place, ids);
-    fault(index, 12, last + 2)
+    breach_of(index, 12, last + 2)
 }
 
 /// An ID that names nothing, or a record that no list may name. There must be a

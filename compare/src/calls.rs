@@ -96,10 +96,11 @@ pub fn compare<Answer: PartialEq + Debug>(
 /// Entries that no call writes by chance and that all differ.
 pub fn untouched(entries: usize) -> Vec<Record> {
     let entry = |index: usize| Record {
-        start: noise(3 * index),
-        length: noise(3 * index + 1),
+        start: noise(4 * index),
+        length: noise(4 * index + 1),
         kind: KINDS[index % KINDS.len()],
-        id: noise(3 * index + 2),
+        id: noise(4 * index + 2),
+        parent: noise(4 * index + 3),
     };
     (0..entries).map(entry).collect()
 }
@@ -107,9 +108,11 @@ pub fn untouched(entries: usize) -> Vec<Record> {
 /// Faults that no call writes by chance and that all differ.
 fn untouched_faults(count: usize) -> Vec<Fault> {
     let fault = |index: usize| Fault {
-        record: noise(3 * index),
-        rule: noise(3 * index + 1) as u8,
-        item: noise(3 * index + 2),
+        record: noise(5 * index),
+        rule: noise(5 * index + 1) as u8,
+        item: noise(5 * index + 2),
+        id: noise(5 * index + 3),
+        parent: noise(5 * index + 4),
     };
     (0..count).map(fault).collect()
 }

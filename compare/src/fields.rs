@@ -1,12 +1,12 @@
 //! A sound pool with one field changed, to the values around its limits or to
 //! all values. What each value breaches is stated here independently.
 
-use crate::breaches::UNFIT_SCALES;
+use crate::breaches::{Breach, UNFIT_SCALES};
 use crate::input::{Class, Input, Known};
 use crate::objects::{Object, GREATEST_SCALE, LEAST_SCALE};
 use crate::shape::LABEL_LIMIT;
 use crate::wording::{MALFORMED, MARK};
-use second::{Fault, Kind};
+use second::Kind;
 
 /// Records of the pool. No other record names the last four.
 const DEVICE: usize = 1;
@@ -75,12 +75,12 @@ impl Sweep {
         change: impl FnOnce(&mut Object),
         breaches: &[(u8, u16)],
     ) {
-        let fault = |&(rule, item): &(u8, u16)| Fault {
+        let breach = |&(rule, item): &(u8, u16)| Breach {
             record: record as u16,
             rule,
             item,
         };
-        let known = Known::Faults(breaches.iter().map(fault).collect());
+        let known = Known::Breaches(breaches.iter().map(breach).collect());
         self.push(record, name, change, known);
     }
 

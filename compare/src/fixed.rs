@@ -265,7 +265,7 @@ fn realistic_inputs() -> impl Iterator<Item = Input> {
         .map(|size| {
             let name = format!("realistic, {size} bytes");
             Input::of_objects(Class::Realistic, name, realistic(size))
-                .knowing(Known::Faults(Vec::new()))
+                .knowing(Known::Breaches(Vec::new()))
                 .with(Effort::Exhaustive)
         })
 }
@@ -275,10 +275,10 @@ fn each_breach() -> impl Iterator<Item = Input> {
     (0..BREACHES_EACH * WAYS).map(|index| {
         let random = &mut Random::for_item(FILLING, index as u64);
         let mut objects = accepted::objects(random);
-        let fault = breach_in_way(index % WAYS, random, &mut objects);
+        let breach = breach_in_way(index % WAYS, random, &mut objects);
         let name = format!("breach {index}");
         Input::of_objects(Class::Breached, name, objects)
-            .knowing(Known::Fault(fault))
+            .knowing(Known::Breach(breach))
             .unlisted()
     })
 }

@@ -33,7 +33,7 @@ fn for_reading(random: &mut Random, name: String) -> Input {
 
 fn accepted_input(random: &mut Random, name: String) -> Input {
     let objects = accepted::objects(random);
-    Input::of_objects(Class::Accepted, name, objects).knowing(Known::Faults(Vec::new()))
+    Input::of_objects(Class::Accepted, name, objects).knowing(Known::Breaches(Vec::new()))
 }
 
 /// An accepted pool with one or several changes that breach a rule.
@@ -42,10 +42,10 @@ fn breached(random: &mut Random, name: String) -> Input {
     for _ in 1..random.pick(&[1, 1, 1, 1, 2, 3, 5, 12, 30]) {
         breach(random, &mut objects);
     }
-    let fault = breach(random, &mut objects);
+    let known = breach(random, &mut objects);
     let input = Input::of_objects(Class::Breached, name, objects);
     if input.pool.len() <= MAX_POOL_BYTES {
-        input.knowing(Known::Fault(fault))
+        input.knowing(Known::Breach(known))
     } else {
         input
     }

@@ -1,8 +1,9 @@
 //! One input of the comparison.
 
+use crate::breaches::Breach;
 use crate::objects::{pool_of, Object};
 use crate::verdict::Effort;
-use second::{Fault, Record};
+use second::Record;
 
 /// Where an input comes from; the report has a line for each.
 #[derive(Clone, Copy, Debug, PartialEq, Eq)]
@@ -75,7 +76,8 @@ pub struct Input {
     pub name: String,
     pub pool: Vec<u8>,
     /// The records that the pool was written from, if its faults are to be
-    /// counted by their causes.
+    /// counted by their causes. They also tell which IDs its table and its
+    /// faults have.
     pub objects: Vec<Object>,
     /// What is known beforehand; both sides are judged by it.
     pub known: Known,
@@ -91,10 +93,10 @@ pub enum Known {
     Records(Vec<Record>),
     /// The lister must give this output.
     Output(String),
-    /// The pool has exactly these faults.
-    Faults(Vec<Fault>),
-    /// The pool has this fault.
-    Fault(Fault),
+    /// The pool has faults of exactly these breaches.
+    Breaches(Vec<Breach>),
+    /// The pool has a fault of this breach.
+    Breach(Breach),
 }
 
 impl Input {

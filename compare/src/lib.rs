@@ -29,6 +29,7 @@ mod realistic;
 pub mod run;
 pub mod sessions;
 pub mod shape;
+mod subjects;
 mod tally;
 mod texts;
 pub mod vectors;

@@ -8,8 +8,8 @@ use second::{Fault, Kind, Record, Refusal};
 
 /// Words of a table entry.
 pub const ENTRY_WORDS: usize = TableEntry::WORDS;
-/// Words of a fault: record, rule, item.
-pub const FAULT_WORDS: usize = 3;
+/// Words of a fault.
+pub const FAULT_WORDS: usize = lachsbrille::Fault::WORDS;
 
 /// A place that no call gives: it shows that none was written.
 pub const UNWRITTEN: usize = usize::MAX;
@@ -65,10 +65,11 @@ pub fn words_of(record: &Record) -> [u16; ENTRY_WORDS] {
         Kind::Dpt => 4,
         Kind::Dvp => 5,
     };
-    [record.start, record.length, kind, record.id]
+    [record.start, record.length, kind, record.id, record.parent]
 }
 
 /// The same fault as the library would write it.
 pub fn words_of_fault(fault: &Fault) -> [u16; FAULT_WORDS] {
-    [fault.record, fault.rule.into(), fault.item]
+    let rule = fault.rule.into();
+    [fault.record, rule, fault.item, fault.id, fault.parent]
 }

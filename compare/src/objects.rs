@@ -82,6 +82,14 @@ impl Object {
         self.kind == Kind::Det && self.element_type == DEVICE_TYPE
     }
 
+    /// The parent ID that its table entry has.
+    pub fn entry_parent(&self) -> u16 {
+        match self.kind {
+            Kind::Det => self.parent,
+            _ => NO_REFERENCE,
+        }
+    }
+
     /// Whether a list may name it.
     pub fn is_data(&self) -> bool {
         matches!(self.kind, Kind::Dpd | Kind::Dpt)

@@ -1,5 +1,6 @@
 //! The differential run.
 
+use crate::breaches::Breach;
 use crate::calls::{self, Compared};
 use crate::census::Census;
 use crate::exchange;
@@ -7,8 +8,10 @@ use crate::fixed;
 use crate::generated;
 use crate::input::{Input, Known};
 use crate::lent::LentPool;
+use crate::library::FAULT_WORDS;
 use crate::lister::Lister;
 use crate::logs;
+use crate::objects::NO_REFERENCE;
 use crate::part;
 use crate::queries::queries;
 use crate::sessions;
@@ -16,6 +19,7 @@ use crate::tally::Tallies;
 use crate::texts::{self, Report};
 use crate::verdict::{Effort, Verdict};
 use crate::views;
+use second::Fault;
 use std::fs;
 use std::io;
 use std::path::PathBuf;
@@ -90,7 +94,7 @@ impl Run {
         Run {
             lister,
             long,
-            tallies: Tallies::default(),
+            tallies: Tallies::new(),
             census: Census::new(),
             fields: views::report(),
             differences: 0,
@@ -129,10 +133,13 @@ impl Run {
             Known::Nothing => true,
             Known::Output(output) => second::list(&input.pool) == *output,
             Known::Records(records) => verdict.records == *records,
-            Known::Faults(faults) => !verdict.is_refused() && verdict.faults == *faults,
-            Known::Fault(fault) => verdict.faults.contains(fault),
+            Known::Breaches(breaches) => {
+                let found = verdict.faults.iter().map(Breach::of);
+                !verdict.is_refused() && found.eq(breaches.iter().copied())
+            }
+            Known::Breach(breach) => verdict.faults.iter().any(|it| Breach::of(it) == *breach),
         };
-        if !agrees {
+        if !agrees || !has_ids_of_objects(input, verdict) {
             self.note(input, "the second implementation parts from what is known");
         }
     }
@@ -145,10 +152,19 @@ impl Run {
                 format!("reading, table of {table} words")
             });
         }
+        let mut most_room = 0;
         for (table, faults) in verdict.lists(effort) {
-            self.take(input, calls::check(pool, table, faults), || {
+            let compared = calls::check(pool, table, faults);
+            if compared.number == 0 {
+                self.tallies.count_buffer(verdict, faults);
+                most_room = most_room.max(faults / FAULT_WORDS);
+            }
+            self.take(input, compared, || {
                 format!("checking, table of {table} words, faults of {faults}")
             });
+        }
+        if let Err(what) = self.tallies.count_faults(verdict, most_room) {
+            self.note(input, &what);
         }
         self.compare_queries(input, verdict, pool);
         views::compare(&mut self.fields, input, verdict, pool);
@@ -256,6 +272,23 @@ fn is_counted(input: &Input, verdict: &Verdict) -> bool {
     !input.objects.is_empty()
         && input.pool.len() <= LONGEST_COUNTED
         && verdict.faults.len() <= MOST_COUNTED
+}
+
+/// Whether table and faults have the IDs and parents of the records that the
+/// pool was written from, if these are known.
+fn has_ids_of_objects(input: &Input, verdict: &Verdict) -> bool {
+    if input.objects.len() != verdict.records.len() {
+        return true;
+    }
+    let ids: Vec<(u16, u16)> = (input.objects.iter())
+        .map(|object| (object.id, object.entry_parent()))
+        .collect();
+    let in_table = verdict.records.iter().map(|it| (it.id, it.parent));
+    let in_faults = |fault: &Fault| match fault.record {
+        0 => (fault.id, fault.parent) == (NO_REFERENCE, NO_REFERENCE),
+        record => (fault.id, fault.parent) == ids[usize::from(record) - 1],
+    };
+    in_table.eq(ids.iter().copied()) && verdict.faults.iter().all(in_faults)
 }
 
 /// Shows the first line in which two outputs differ.

@@ -1,6 +1,7 @@
 //! Writes records and pools of a wanted shape. All fields that reading does
 //! not judge are filled at random.
 
+use crate::objects::NO_REFERENCE;
 use crate::random::Random;
 use second::{Kind, Record};
 
@@ -147,11 +148,16 @@ pub struct Pool {
 impl Pool {
     pub fn push(&mut self, shape: &Shape, random: &mut Random) {
         let bytes = shape.bytes(random);
+        let number_at = |place: usize| u16::from_le_bytes([bytes[place], bytes[place + 1]]);
         self.records.push(Record {
             start: self.bytes.len() as u16,
             length: bytes.len() as u16,
             kind: shape.kind,
-            id: u16::from_le_bytes([bytes[3], bytes[4]]),
+            id: number_at(3),
+            parent: match shape.kind {
+                Kind::Det => number_at(9 + shape.texts[0]),
+                _ => NO_REFERENCE,
+            },
         });
         self.bytes.extend(bytes);
     }

@@ -1,6 +1,8 @@
 //! What was compared, counted by class.
 
 use crate::input::Class;
+use crate::library::FAULT_WORDS;
+use crate::subjects::Subjects;
 use crate::verdict::Verdict;
 
 /// What calls answer: 0 or a refusal.
@@ -57,14 +59,39 @@ impl Tally {
     }
 }
 
-#[derive(Default)]
 pub struct Tallies {
     by_class: [Tally; Class::ALL.len()],
+    /// Faults that were compared in a buffer.
+    faults: Subjects,
+    /// Checks of pools with more faults than the buffer had room for, by the
+    /// words that were left over.
+    cut_buffers: [u64; FAULT_WORDS],
 }
 
 impl Tallies {
+    pub fn new() -> Self {
+        Tallies {
+            by_class: Default::default(),
+            faults: Subjects::of_all("faults in buffers"),
+            cut_buffers: [0; FAULT_WORDS],
+        }
+    }
+
     pub fn of(&mut self, class: Class) -> &mut Tally {
         &mut self.by_class[class as usize]
+    }
+
+    /// Counts a check with a buffer of `words` words.
+    pub fn count_buffer(&mut self, verdict: &Verdict, words: usize) {
+        if words / FAULT_WORDS < verdict.faults.len() {
+            self.cut_buffers[words % FAULT_WORDS] += 1;
+        }
+    }
+
+    /// Counts the first faults of a pool, as many as a buffer had room for.
+    pub fn count_faults(&mut self, verdict: &Verdict, room: usize) -> Result<(), String> {
+        let mut written = verdict.faults.iter().take(room);
+        written.try_for_each(|fault| self.faults.count(fault, &verdict.records))
     }
 
     fn total(&self) -> Tally {
@@ -90,14 +117,24 @@ impl Tallies {
             self.by_class[class as usize].print(class.name());
         }
         self.total().print("all");
+        self.faults.print();
+        print!("buffers too short, by words left over");
+        for (words, count) in self.cut_buffers.iter().enumerate() {
+            print!("; {words}: {count}");
+        }
+        println!();
     }
 
-    /// Answers that should have occurred and did not.
+    /// Answers, faults and buffers that should have occurred and did not.
     pub fn unseen(&self) -> Vec<String> {
         let counts = NUMBERS.iter().copied().zip(self.total().numbers);
-        counts
+        let numbers = counts
             .filter(|&(number, count)| number != MANY_RECORDS && count == 0)
-            .map(|(number, _)| format!("a call that gives {number}"))
-            .collect()
+            .map(|(number, _)| format!("a call that gives {number}"));
+        let cut = self.cut_buffers.iter().enumerate();
+        let cut = cut
+            .filter(|&(_, &count)| count == 0)
+            .map(|(words, _)| format!("a buffer that ends after {words} words of a fault"));
+        numbers.chain(self.faults.unseen()).chain(cut).collect()
     }
 }

@@ -99,7 +99,7 @@ impl Verdict {
         if effort >= Effort::Full {
             let buffers = [0, 1, 2, 3, fewer, count, count + 1];
             for (index, faults) in buffers.into_iter().enumerate() {
-                let table = needed + [0, 1, 4, 37][index % 4];
+                let table = needed + [0, 1, ENTRY_WORDS, 37][index % 4];
                 lists.extend((0..FAULT_WORDS).map(|more| (table, words(faults) + more)));
             }
             lists.extend([

@@ -6,6 +6,7 @@ use crate::Group;
 use compare::accepted;
 use compare::breaches::{breach_in_way, WAYS};
 use compare::fixed::{pool_p, pool_q};
+use compare::library::FAULT_WORDS;
 use compare::objects::{pool_of, GREATEST_SCALE, LEAST_SCALE};
 use compare::random::Random;
 use compare::vectors;
@@ -47,6 +48,7 @@ pub fn seeds() -> io::Result<Vec<Vec<u8>>> {
     let mut seeds: Vec<Vec<u8>> = pools.iter().map(|pool| asked(pool, [0; 4])).collect();
     seeds.extend(FILLINGS.map(|filling| asked(&pool_q(), filling)));
     seeds.extend(asked_wide(&pool_q()));
+    seeds.extend(short_buffers(&pool_q()[..59]));
     for pool in pools.iter().filter(|pool| pool.len() < SHORT_POOL) {
         seeds.push(sent(pool));
         seeds.push(on_value(pool, |value| value[17] = ACTIVATE));
@@ -83,6 +85,15 @@ fn asked_wide(pool: &[u8]) -> [Vec<u8>; 3] {
     [1, 1 << 2, 1 << 4].map(|wide| {
         let mut input = asked(pool, [0; 4]);
         input[1] = wide;
+        input
+    })
+}
+
+/// Fault buffers that end inside the last fault, at each of its words.
+fn short_buffers(pool: &[u8]) -> impl Iterator<Item = Vec<u8>> + '_ {
+    (1..=FAULT_WORDS).map(|words| {
+        let mut input = asked(pool, [0; 4]);
+        input[3] = (words as u8).wrapping_neg();
         input
     })
 }

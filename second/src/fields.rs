@@ -70,13 +70,6 @@ impl<'a> Element<'a> {
         record[5]
     }
 
-    /// Only the parent ID.
-    #[inline]
-    pub fn parent_of(record: &[u8]) -> u16 {
-        let (_, rest) = Text::split(&record[6..]);
-        u16_at(rest, 2)
-    }
-
     /// The IDs of the list.
     #[inline]
     pub fn entries(&self) -> impl Iterator<Item = u16> + 'a {

@@ -31,6 +31,7 @@ fn record_lines(records: &[Record]) -> String {
             length,
             kind,
             id,
+            ..
         } = record;
         writeln!(lines, "{} {id} at {start} length {length}", kind.mark())
             .expect("a String takes every line");
@@ -43,8 +44,16 @@ fn verdict_lines(faults: &[Fault]) -> String {
         return "accepted\n".into();
     }
     let mut lines = String::new();
-    for Fault { record, rule, item } in faults {
-        writeln!(lines, "fault {record} {rule} {item}").expect("a String takes every line");
+    for fault in faults {
+        let Fault {
+            record,
+            rule,
+            item,
+            id,
+            parent,
+        } = fault;
+        writeln!(lines, "fault {record} {rule} {item} {id} {parent}")
+            .expect("a String takes every line");
     }
     lines
 }
@@ -79,7 +88,7 @@ mod tests {
         let pool = [&DET[..], DPD, DPD].concat();
         let records =
             "records 3\nDET 1 at 0 length 13\nDPD 3 at 13 length 12\nDPD 3 at 25 length 12\n";
-        let faults = "fault 0 10 1\nfault 1 6 1\nfault 3 2 1\n";
+        let faults = "fault 0 10 1 65535 65535\nfault 1 6 1 1 0\nfault 3 2 1 3 65535\n";
         assert_eq!(list(&pool), format!("{records}{faults}"));
     }
 
@@ -101,8 +110,14 @@ mod tests {
         ] {
             let lines = fault_lines(records);
             assert_eq!(lines.len(), faults);
-            assert_eq!(lines[..3], ["fault 0 10 1", "fault 0 11 1", "fault 2 2 1"]);
-            assert_eq!(lines[faults - 1], format!("fault {} 2 1", faults - 1));
+            let first = [
+                "fault 0 10 1 65535 65535",
+                "fault 0 11 1 65535 65535",
+                "fault 2 2 1 3 65535",
+            ];
+            assert_eq!(lines[..3], first);
+            let last = format!("fault {} 2 1 3 65535", faults - 1);
+            assert_eq!(lines[faults - 1], last);
         }
     }
 

@@ -2,13 +2,10 @@
 //! to the next, because emptying them would take longer than checking a
 //! small pool.
 
-use crate::pool::Record;
+use crate::pool::{Record, NO_REFERENCE};
 use std::mem;
 
 const NUMBERS: usize = 1 << 16;
-
-/// As a reference this ID names nothing, though a record may carry it.
-pub const NO_REFERENCE: u16 = 65_535;
 
 /// Finds the first record that carries an ID.
 pub struct Carriers {

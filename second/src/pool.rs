@@ -5,6 +5,11 @@ pub const MAX_POOL_BYTES: usize = 65_535;
 /// Most records a pool may divide into.
 pub const MAX_RECORDS: usize = 8_192;
 
+/// An ID that names nothing, though a record may carry it. It also stands
+/// where there is no ID to give: as the parent of a kind that has none, and in
+/// faults of the whole pool.
+pub(crate) const NO_REFERENCE: u16 = 65_535;
+
 /// Limit of a designator, software version, serial number or unit text.
 const MAX_TEXT: u8 = 128;
 /// Limit of a device's extended structure label.
@@ -47,6 +52,9 @@ pub struct Record {
     pub length: u16,
     pub kind: Kind,
     pub id: u16,
+    /// A device element's parent ID as it stands in the pool, whatever it
+    /// names; 65535 for the other kinds, which have no parent.
+    pub parent: u16,
 }
 
 /// Why a pool was not read. The place is a position in the pool, except for
@@ -127,38 +135,43 @@ fn entries_for(count: usize, table: &mut [Record]) -> Result<&mut [Record], Refu
 fn walk(pool: &[u8], mut visit: impl FnMut(Record)) -> Result<(), Refusal> {
     let mut start = 0;
     while start < pool.len() {
-        let (kind, end) = kind_and_end(pool, start)?;
+        let (kind, parent, end) = kind_parent_and_end(pool, start)?;
         visit(Record {
             start: start as u16,
             length: (end - start) as u16,
             kind,
             id: u16::from_le_bytes([pool[start + 3], pool[start + 4]]),
+            parent,
         });
         start = end;
     }
     Ok(())
 }
 
-/// Kind and end of the record at `start`, or what is wrong with it. Inlining
-/// it keeps the result in registers, which halves the time.
+/// Kind, parent ID and end of the record at `start`, or what is wrong with it.
+/// Inlining it keeps the result in registers, which halves the time.
 #[inline(always)]
-fn kind_and_end(pool: &[u8], start: usize) -> Result<(Kind, usize), Refusal> {
+fn kind_parent_and_end(pool: &[u8], start: usize) -> Result<(Kind, u16, usize), Refusal> {
     let fields = Fields { pool, start };
     let Some(mark) = pool.get(start..start + 3) else {
         return Err(fields.cut());
     };
-    let (kind, end) = match mark {
-        b"DVC" => (Kind::Dvc, fields.dvc_end()?),
-        b"DET" => (Kind::Det, fields.det_end()?),
-        b"DPD" => (Kind::Dpd, fields.text_end(start + 9, MAX_TEXT)? + 2),
-        b"DPT" => (Kind::Dpt, fields.text_end(start + 11, MAX_TEXT)? + 2),
-        b"DVP" => (Kind::Dvp, fields.text_end(start + 14, MAX_TEXT)?),
+    let without_parent = |kind, end| (kind, NO_REFERENCE, end);
+    let (kind, parent, end) = match mark {
+        b"DVC" => without_parent(Kind::Dvc, fields.dvc_end()?),
+        b"DET" => {
+            let (parent, end) = fields.det_parent_and_end()?;
+            (Kind::Det, parent, end)
+        }
+        b"DPD" => without_parent(Kind::Dpd, fields.text_end(start + 9, MAX_TEXT)? + 2),
+        b"DPT" => without_parent(Kind::Dpt, fields.text_end(start + 11, MAX_TEXT)? + 2),
+        b"DVP" => without_parent(Kind::Dvp, fields.text_end(start + 14, MAX_TEXT)?),
         _ => return Err(Refusal::new(Refusal::NO_MARK, start)),
     };
     if end > pool.len() {
         return Err(fields.cut());
     }
-    Ok((kind, end))
+    Ok((kind, parent, end))
 }
 
 /// Finds the ends of a record's fields, as positions in the pool. They follow
@@ -182,14 +195,16 @@ impl Fields<'_> {
         self.text_end(labels_end, MAX_EXTENDED_LABEL)
     }
 
+    /// The parent ID of a device element, and where its list ends.
     #[inline]
-    fn det_end(self) -> Result<usize, Refusal> {
-        let designator_end = self.text_end(self.start + 6, MAX_TEXT)?;
-        let parent_end = designator_end + 4;
-        match self.pool.get(parent_end..parent_end + 2) {
-            Some(&[low, high]) => {
-                let entries = usize::from(u16::from_le_bytes([low, high]));
-                Ok(parent_end + 2 + 2 * entries)
+    fn det_parent_and_end(self) -> Result<(u16, usize), Refusal> {
+        let number_end = self.text_end(self.start + 6, MAX_TEXT)? + 2;
+        let count_end = number_end + 4;
+        match self.pool.get(number_end..count_end) {
+            Some(&[parent_low, parent_high, count_low, count_high]) => {
+                let parent = u16::from_le_bytes([parent_low, parent_high]);
+                let entries = u16::from_le_bytes([count_low, count_high]);
+                Ok((parent, count_end + 2 * usize::from(entries)))
             }
             _ => Err(self.cut()),
         }
@@ -235,12 +250,13 @@ mod tests {
         pool
     }
 
-    fn record(start: u16, length: u16, kind: Kind, id: u16) -> Record {
+    fn record(start: u16, length: u16, kind: Kind, id: u16, parent: u16) -> Record {
         Record {
             start,
             length,
             kind,
             id,
+            parent,
         }
     }
 
@@ -250,6 +266,7 @@ mod tests {
         length: 0x5A5A,
         kind: Kind::Dvp,
         id: 0xC3C3,
+        parent: 0x3C3C,
     };
 
     fn read<const ENTRIES: usize>(pool: &[u8]) -> (Result<usize, Refusal>, [Record; ENTRIES]) {
@@ -269,8 +286,8 @@ mod tests {
         let (result, table) = read(&pool_p());
         assert_eq!(result, Ok(2));
         let expected = [
-            record(0, 31, Kind::Dvc, 0),
-            record(31, 13, Kind::Det, 1),
+            record(0, 31, Kind::Dvc, 0, 65_535),
+            record(31, 13, Kind::Det, 1, 0),
             UNTOUCHED,
         ];
         assert_eq!(table, expected);
@@ -281,10 +298,10 @@ mod tests {
         let (result, table) = read(&pool_q());
         assert_eq!(result, Ok(4));
         let expected = [
-            record(0, 31, Kind::Dvc, 0),
-            record(31, 13, Kind::Det, 1),
-            record(44, 15, Kind::Det, 2),
-            record(59, 12, Kind::Dpd, 3),
+            record(0, 31, Kind::Dvc, 0, 65_535),
+            record(31, 13, Kind::Det, 1, 0),
+            record(44, 15, Kind::Det, 2, 1),
+            record(59, 12, Kind::Dpd, 3, 65_535),
         ];
         assert_eq!(table, expected);
     }
@@ -337,7 +354,10 @@ mod tests {
         pool.splice(6..6, [b'a'; 128]);
         let (result, table) = read(&pool);
         assert_eq!(result, Ok(2));
-        let expected = [record(0, 159, Kind::Dvc, 0), record(159, 13, Kind::Det, 1)];
+        let expected = [
+            record(0, 159, Kind::Dvc, 0, 65_535),
+            record(159, 13, Kind::Det, 1, 0),
+        ];
         assert_eq!(table, expected);
         pool[5] = 129;
         assert_refused(&pool, 5, 5);
@@ -351,6 +371,18 @@ mod tests {
             assert_refused(&pool, 4, 0);
             pool[at] = limit + 1;
             assert_refused(&pool, 5, at);
+        }
+    }
+
+    #[test]
+    fn a_parent_stands_behind_designator_and_element_number() {
+        for designator in [0, 1, 2, 127, 128] {
+            let mut pool = b"DET\x01\x02\x03".to_vec();
+            pool.push(designator);
+            pool.extend(vec![b'a'; designator.into()]);
+            pool.extend(*b"\x04\x05\x06\x07\x01\0\x08\x09");
+            let expected = record(0, pool.len() as u16, Kind::Det, 0x0201, 0x0706);
+            assert_eq!(read(&pool), (Ok(1), [expected]));
         }
     }
 

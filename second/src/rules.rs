@@ -3,8 +3,8 @@
 use crate::chains::Chains;
 use crate::faults::{Fault, FaultList};
 use crate::fields::{ddi, Device, Element, Presentation, ProcessData, Property};
-use crate::numbers::{Carriers, Names, NumberSet, NO_REFERENCE};
-use crate::pool::{read_pool_through, Kind, Record, Refusal};
+use crate::numbers::{Carriers, Names, NumberSet};
+use crate::pool::{read_pool_through, Kind, Record, Refusal, NO_REFERENCE};
 use crate::texts::Text;
 use std::cell::RefCell;
 use std::ops::RangeInclusive;
@@ -80,7 +80,12 @@ impl Scratch {
         }
     }
 
-    fn check(&mut self, pool: &[u8], records: &[Record], faults: FaultList) -> usize {
+    fn check<'a>(
+        &'a mut self,
+        pool: &'a [u8],
+        records: &'a [Record],
+        faults: FaultList<'a>,
+    ) -> usize {
         self.notes.element_numbers.clear();
         self.notes.chains.start(records.len());
         let mut checker = Checker {
@@ -121,9 +126,9 @@ impl<'a> Checker<'a> {
 
     fn records(&mut self) {
         let mut after_device = false;
-        for (index, &record) in self.names.records.iter().enumerate() {
-            self.faults.record = index as u16 + 1;
-            self.id(index, record);
+        for (index, record) in self.names.records.iter().enumerate() {
+            self.faults.start_record(index as u16 + 1, record);
+            self.id(index, *record);
             let bytes = record.bytes(self.pool);
             match record.kind {
                 Kind::Dvc => {
@@ -214,10 +219,9 @@ impl<'a> Checker<'a> {
     }
 
     fn chain_never_ends(&mut self, index: usize) -> bool {
-        let (pool, names) = (self.pool, self.names);
+        let names = self.names;
         let parent = |child: usize| {
-            let parent = Element::parent_of(names.records[child].bytes(pool));
-            let named = names.index_named_by(parent)?;
+            let named = names.index_named_by(names.records[child].parent)?;
             (names.records[named].kind == Kind::Det).then_some(named)
         };
         self.notes.chains.never_ends(index, parent)

@@ -4,66 +4,114 @@
 #include "lachsbrille.h"
 #include "pools.h"
 
-enum { LEFT = 0xA5, LEFT_WORD = 0xA5A5 };
+enum { LEFT = 0xA5, LEFT_WORD = 0xA5A5, NO_PARENT = LACHSBRILLE_NO_ID };
 
-static void entry(const lachsbrille_record *given, unsigned start, unsigned length, unsigned kind, unsigned id)
+static void entry(const lachsbrille_record *given, unsigned start, unsigned length, unsigned kind, unsigned id, unsigned parent)
 {
     EQUAL(given->start, start);
     EQUAL(given->length, length);
     EQUAL(given->kind, kind);
     EQUAL(given->id, id);
+    EQUAL(given->parent, parent);
+}
+
+/* An entry that no call has written. */
+static void entry_is_left(const lachsbrille_record *given)
+{
+    entry(given, LEFT_WORD, LEFT_WORD, LEFT_WORD, LEFT_WORD, LEFT_WORD);
 }
 
 static void table_is_of_named(const lachsbrille_record *table)
 {
-    entry(table, 0, 17, LACHSBRILLE_DVP, 0x0209);
-    entry(table + 1, 17, 17, LACHSBRILLE_DPT, 0x0107);
-    entry(table + 2, 34, 39, LACHSBRILLE_DVC, 0);
-    entry(table + 3, 73, 19, LACHSBRILLE_DET, 1);
-    entry(table + 4, LEFT_WORD, LEFT_WORD, LEFT_WORD, LEFT_WORD);
+    entry(table, 0, 17, LACHSBRILLE_DVP, 0x0209, NO_PARENT);
+    entry(table + 1, 17, 17, LACHSBRILLE_DPT, 0x0107, NO_PARENT);
+    entry(table + 2, 34, 39, LACHSBRILLE_DVC, 0, NO_PARENT);
+    entry(table + 3, 73, 19, LACHSBRILLE_DET, 0x0403, 0);
+    entry(table + 4, 92, 13, LACHSBRILLE_DET, 0x0506, 0x0403);
+    entry_is_left(table + 5);
+}
+
+/* The fault of Q without its process data. */
+static const uint16_t fault_of_q[LACHSBRILLE_FAULT_WORDS] = {3, 6, 2, 2, 1};
+
+/* The faults of `faulty`: of the whole pool, of a kind without a parent, of an element whose parent is missing and of another one. */
+enum { FAULTS = 4, FAULTY_WORDS = FAULTS * LACHSBRILLE_FAULT_WORDS };
+static const uint16_t faults_of_faulty[FAULTY_WORDS] = {
+    0, 10, 1, LACHSBRILLE_NO_ID, LACHSBRILLE_NO_ID,
+    2, 4, 1, 0x0107, NO_PARENT,
+    3, 6, 1, 0x0403, 0,
+    4, 5, 1, 0x0506, 0x0403
+};
+
+/* Checks `faulty` with a buffer of so many words. */
+static void check_faulty(size_t words)
+{
+    enum { MORE = LACHSBRILLE_FAULT_WORDS + 1 };
+    size_t fitting = words < FAULTY_WORDS ? words / LACHSBRILLE_FAULT_WORDS * LACHSBRILLE_FAULT_WORDS : FAULTY_WORDS;
+    lachsbrille_record table[5];
+    uint16_t faults[FAULTY_WORDS + MORE];
+    size_t value = 9, at;
+
+    EQUAL(words <= FAULTY_WORDS + MORE, 1);
+    memset(table, LEFT, sizeof table);
+    memset(faults, LEFT, sizeof faults);
+    EQUAL(lachsbrille_check(faulty, FAULTY, table, 5, faults, words, &value), LACHSBRILLE_OK);
+    EQUAL(value, FAULTS);
+    SAME(faults, faults_of_faulty, fitting * sizeof *faults);
+    for (at = fitting; at < FAULTY_WORDS + MORE; at++) {
+        EQUAL(faults[at], LEFT_WORD);
+    }
+    entry(table, 0, 17, LACHSBRILLE_DVP, 0x0209, NO_PARENT);
+    entry(table + 1, 17, 17, LACHSBRILLE_DPT, 0x0107, NO_PARENT);
+    entry(table + 2, 34, 19, LACHSBRILLE_DET, 0x0403, 0);
+    entry(table + 3, 53, 13, LACHSBRILLE_DET, 0x0506, 0x0403);
+    entry_is_left(table + 4);
 }
 
 static void pools(void)
 {
-    lachsbrille_record table[5];
+    lachsbrille_record table[6];
     lachsbrille_device_labels labels;
     uint16_t faults[8];
-    size_t value = 9, from = 9, to = 9;
+    size_t value = 9, from = 9, to = 9, words;
     int at;
 
     memset(table, LEFT, sizeof table);
-    EQUAL(lachsbrille_read(named, NAMED, table, 5, &value), LACHSBRILLE_OK);
-    EQUAL(value, 4);
+    EQUAL(lachsbrille_read(named, NAMED, table, 6, &value), LACHSBRILLE_OK);
+    EQUAL(value, 5);
     table_is_of_named(table);
 
-    /* The faults of Q without its process data, into a buffer for two and two thirds of a fault. */
+    /* From no room at all to more than all faults need: the buffer ends at and inside every entry. */
+    for (words = 0; words <= FAULTY_WORDS + LACHSBRILLE_FAULT_WORDS + 1; words++) {
+        check_faulty(words);
+    }
+
+    /* A buffer for one and three fifths of a fault. */
     memset(table, LEFT, sizeof table);
     memset(faults, LEFT, sizeof faults);
     EQUAL(lachsbrille_check(q, ELEMENT_END, table, 5, faults, 8, &value), LACHSBRILLE_OK);
     EQUAL(value, 1);
-    EQUAL(faults[0], 3);
-    EQUAL(faults[1], 6);
-    EQUAL(faults[2], 2);
-    for (at = 3; at < 8; at++) {
+    SAME(faults, fault_of_q, sizeof fault_of_q);
+    for (at = LACHSBRILLE_FAULT_WORDS; at < 8; at++) {
         EQUAL(faults[at], LEFT_WORD);
     }
-    entry(table, 0, 31, LACHSBRILLE_DVC, 0);
-    entry(table + 1, 31, 13, LACHSBRILLE_DET, 1);
-    entry(table + 2, 44, 15, LACHSBRILLE_DET, 2);
-    entry(table + 3, LEFT_WORD, LEFT_WORD, LEFT_WORD, LEFT_WORD);
+    entry(table, 0, 31, LACHSBRILLE_DVC, 0, NO_PARENT);
+    entry(table + 1, 31, 13, LACHSBRILLE_DET, 1, 0);
+    entry(table + 2, 44, 15, LACHSBRILLE_DET, 2, 1);
+    entry_is_left(table + 3);
     EQUAL(lachsbrille_check(q, Q, table, 4, LACHSBRILLE_NOTHING, 0, &value), LACHSBRILLE_OK);
     EQUAL(value, 0);
-    entry(table + 3, 59, 12, LACHSBRILLE_DPD, 3);
+    entry(table + 3, 59, 12, LACHSBRILLE_DPD, 3, NO_PARENT);
 
     memset(table, LEFT, sizeof table);
-    EQUAL(lachsbrille_text(named, NAMED, table, 5, 0x0107, &from, &to), LACHSBRILLE_OK);
+    EQUAL(lachsbrille_text(named, NAMED, table, 6, 0x0107, &from, &to), LACHSBRILLE_OK);
     EQUAL(from, 29);
     EQUAL(to, 32);
     SAME(named + from, "out", 3);
     table_is_of_named(table);
 
     memset(table, LEFT, sizeof table);
-    labels = labels_of(named, NAMED, table, 5);
+    labels = labels_of(named, NAMED, table, 6);
     EQUAL(labels.number, LACHSBRILLE_OK);
     SAME(labels.structure, named + 55, 7);
     SAME(labels.localization, named + 62, 7);
@@ -177,14 +225,31 @@ static void session_is(lachsbrille_session given, unsigned stage, unsigned activ
     EQUAL(given.kept, kept);
 }
 
-static void answer_is(lachsbrille_step given, unsigned number, unsigned place, unsigned record, unsigned rule,
-                      unsigned item)
+/* The five numbers of a fault, as a fault buffer has them. */
+static void fault_is(lachsbrille_step given, const uint16_t *fault)
 {
+    EQUAL(given.record, fault[0]);
+    EQUAL(given.rule, fault[1]);
+    EQUAL(given.item, fault[2]);
+    EQUAL(given.id, fault[3]);
+    EQUAL(given.parent, fault[4]);
+}
+
+static void answer_is_faulty(lachsbrille_step given, const uint16_t *fault)
+{
+    EQUAL(given.number, LACHSBRILLE_FAULTY);
+    EQUAL(given.place, 0);
+    fault_is(given, fault);
+}
+
+/* An answer without a fault. */
+static void answer_is(lachsbrille_step given, unsigned number, unsigned place)
+{
+    static const uint16_t no_fault[LACHSBRILLE_FAULT_WORDS] = {0, 0, 0, 0, 0};
+
     EQUAL(given.number, number);
     EQUAL(given.place, place);
-    EQUAL(given.record, record);
-    EQUAL(given.rule, rule);
-    EQUAL(given.item, item);
+    fault_is(given, no_fault);
 }
 
 static void sessions(void)
@@ -205,16 +270,17 @@ static void sessions(void)
     session.kept = 60;
     step = offer(session, Q, staging, 90, kept, 80);
     session_is(step.session, LACHSBRILLE_STAGE_OFFERED, 1, Q, 0, 60);
-    answer_is(step, LACHSBRILLE_OK, 0, 0, 0, 0);
+    answer_is(step, LACHSBRILLE_OK, 0);
     EQUAL(offer(session, 81, staging, 90, kept, 80).number, LACHSBRILLE_SHORT_AREA);
     EQUAL(offer(session, 81, staging, 80, kept, 80).number, LACHSBRILLE_SHORT_AREA);
 
     step = transfer(step.session, q, ELEMENT_END, staging, 90);
     session_is(step.session, LACHSBRILLE_STAGE_OFFERED, 1, Q, ELEMENT_END, 60);
-    answer_is(step, LACHSBRILLE_OK, 0, 0, 0, 0);
+    answer_is(step, LACHSBRILLE_OK, 0);
     SAME(staging, q, ELEMENT_END);
     step = transfer(step.session, q + ELEMENT_END, Q - ELEMENT_END, staging, 90);
     session_is(step.session, LACHSBRILLE_STAGE_OFFERED, 1, Q, Q, 60);
+    answer_is(step, LACHSBRILLE_OK, 0);
     SAME(staging, q, Q);
     for (at = Q; at < 90; at++) {
         EQUAL(staging[at], LEFT);
@@ -222,26 +288,26 @@ static void sessions(void)
 
     step = activate(step.session, staging, 90, kept, 80, table, 5);
     session_is(step.session, LACHSBRILLE_STAGE_NONE, 1, 0, 0, Q);
-    answer_is(step, LACHSBRILLE_OK, 0, 0, 0, 0);
+    answer_is(step, LACHSBRILLE_OK, 0);
     SAME(kept, q, Q);
     for (at = Q; at < 80; at++) {
         EQUAL(kept[at], LEFT);
     }
-    entry(table + 2, 44, 15, LACHSBRILLE_DET, 2);
-    entry(table + 3, 59, 12, LACHSBRILLE_DPD, 3);
-    entry(table + 4, LEFT_WORD, LEFT_WORD, LEFT_WORD, LEFT_WORD);
+    entry(table + 2, 44, 15, LACHSBRILLE_DET, 2, 1);
+    entry(table + 3, 59, 12, LACHSBRILLE_DPD, 3, NO_PARENT);
+    entry_is_left(table + 4);
 
     /* Refused with a fault, and with a place. The kept pool is unchanged. */
     session = offer(step.session, ELEMENT_END, staging, 90, kept, 80).session;
     session = transfer(session, q, ELEMENT_END, staging, 90).session;
     step = activate(session, staging, 90, kept, 80, table, 5);
     session_is(step.session, LACHSBRILLE_STAGE_NONE, 1, 0, 0, Q);
-    answer_is(step, LACHSBRILLE_FAULTY, 0, 3, 6, 2);
+    answer_is_faulty(step, fault_of_q);
     session = offer(step.session, 70, staging, 90, kept, 80).session;
     session = transfer(session, q, 70, staging, 90).session;
     step = activate(session, staging, 90, kept, 80, table, 5);
     session_is(step.session, LACHSBRILLE_STAGE_NONE, 1, 0, 0, Q);
-    answer_is(step, LACHSBRILLE_CUT_RECORD, 59, 0, 0, 0);
+    answer_is(step, LACHSBRILLE_CUT_RECORD, 59);
     SAME(kept, q, Q);
 
     /* A value that can't arise comes back as it was, field by field. */
@@ -252,7 +318,7 @@ static void sessions(void)
     session.kept = 15;
     step = lost(session);
     session_is(step.session, 11, 12, 13, 14, 15);
-    answer_is(step, LACHSBRILLE_IMPOSSIBLE_SESSION, 0, 0, 0, 0);
+    answer_is(step, LACHSBRILLE_IMPOSSIBLE_SESSION, 0);
 
     /* Offered, active and with a kept pool: each of the last three calls leaves a different session. */
     session.stage = LACHSBRILLE_STAGE_OFFERED;
@@ -260,10 +326,47 @@ static void sessions(void)
     session.received = 10;
     step = deactivate(session);
     session_is(step.session, LACHSBRILLE_STAGE_OFFERED, 0, 13, 10, 15);
+    answer_is(step, LACHSBRILLE_OK, 0);
     step = lost(session);
     session_is(step.session, LACHSBRILLE_STAGE_NONE, 0, 0, 0, 15);
+    answer_is(step, LACHSBRILLE_OK, 0);
     step = delete_pool(session);
     session_is(step.session, LACHSBRILLE_STAGE_NONE, 0, 0, 0, 0);
+    answer_is(step, LACHSBRILLE_OK, 0);
+}
+
+/* Sends a pool and has it refused with its first fault. */
+static void send_faulty(const uint8_t *pool, size_t length, const uint16_t *fault)
+{
+    uint8_t staging[NAMED], kept[NAMED];
+    lachsbrille_record table[5];
+    lachsbrille_session session = lachsbrille_session_new();
+    lachsbrille_step step;
+
+    memset(staging, LEFT, sizeof staging);
+    memset(kept, LEFT, sizeof kept);
+    memset(table, LEFT, sizeof table);
+    session = offer(session, length, staging, sizeof staging, kept, sizeof kept).session;
+    session = transfer(session, pool, length, staging, sizeof staging).session;
+    step = activate(session, staging, sizeof staging, kept, sizeof kept, table, 5);
+    session_is(step.session, LACHSBRILLE_STAGE_NONE, 0, 0, 0, 0);
+    answer_is_faulty(step, fault);
+}
+
+/* First faults of the whole pool, of a kind without a parent and of a device element. */
+static void first_faults(void)
+{
+    static const uint16_t text[LACHSBRILLE_FAULT_WORDS] = {2, 4, 1, 0x0107, NO_PARENT};
+    static const uint16_t type[LACHSBRILLE_FAULT_WORDS] = {5, 5, 1, 0x0506, 0x0403};
+    uint8_t pool[NAMED];
+
+    send_faulty(faulty, FAULTY, faults_of_faulty);
+    memcpy(pool, named, NAMED);
+    pool[30] = 0xFF;
+    send_faulty(pool, NAMED, text);
+    memcpy(pool, named, NAMED);
+    pool[97] = 0;
+    send_faulty(pool, NAMED, type);
 }
 
 static void exchange(void)
@@ -304,8 +407,8 @@ static void exchange(void)
     memset(table, LEFT, sizeof table);
     EQUAL(lachsbrille_judge(q, Q, table, 5, 4, 1, 141, 1000, &error), LACHSBRILLE_OK);
     EQUAL(error, 0);
-    entry(table + 3, 59, 12, LACHSBRILLE_DPD, 3);
-    entry(table + 4, LEFT_WORD, LEFT_WORD, LEFT_WORD, LEFT_WORD);
+    entry(table + 3, 59, 12, LACHSBRILLE_DPD, 3, NO_PARENT);
+    entry_is_left(table + 4);
     EQUAL(lachsbrille_judge(q, Q, table, 5, 4, 1, 141, -1, &error), LACHSBRILLE_OK);
     EQUAL(error, LACHSBRILLE_ERROR_INTERVAL);
     EQUAL(lachsbrille_judge(q, Q, table, 5, 3, 1, 141, 1000, &error), LACHSBRILLE_OK);
@@ -429,6 +532,7 @@ int main(void)
     fields();
     fields_past_the_end();
     sessions();
+    first_faults();
     exchange();
     logs();
     layout_bits();

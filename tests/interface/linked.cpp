@@ -47,6 +47,11 @@ void pools()
               LACHSBRILLE_OK,
           "the pool is checked");
     check(value == 0 && table[1].kind == LACHSBRILLE_DET && table[1].start == 31, "it is accepted");
+    check(table[0].parent == LACHSBRILLE_NO_ID && table[1].parent == 0, "its element is under its device");
+    // The device alone lacks an element.
+    check(lachsbrille_check(pool.data(), 31, table.data(), table.size(), faults.data(), faults.size(), &value) == LACHSBRILLE_OK &&
+              value == 1 && faults == std::vector<std::uint16_t>({0, 11, 1, LACHSBRILLE_NO_ID, LACHSBRILLE_NO_ID}),
+          "a fault of the whole pool has the ID of no record");
     lachsbrille_device_labels labels;
     lachsbrille_labels(&labels, pool.data(), pool.size(), table.data(), table.size());
     check(labels.number == LACHSBRILLE_OK && labels.localization[1] == 0x6E, "it has labels");

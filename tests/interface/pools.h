@@ -1,5 +1,5 @@
-/* Pools for the tests: the worked examples P and Q, one whose texts and labels all differ, and a record of each kind whose bytes all
- * differ. */
+/* Pools for the tests: the worked examples P and Q, one whose texts, labels and IDs all differ, the same with faults, and a record of
+ * each kind whose bytes all differ. */
 #ifndef POOLS_H
 #define POOLS_H
 
@@ -18,14 +18,25 @@ static const uint8_t q[Q] = {
 };
 
 /* The records are not in the order of their kinds' numbers. */
-enum { NAMED = 92 };
+enum { NAMED = 105 };
 
 static const uint8_t named[NAMED] = {
     'D', 'V', 'P', 9, 2, 0, 0, 0, 0, 0, 0, 0x80, 0x3F, 0, 2, 'k', 'g',
     'D', 'P', 'T', 7, 1, 0x86, 0, 1, 0, 0, 0, 3, 'o', 'u', 't', 9, 2,
     'D', 'V', 'C', 0, 0, 5, 'D', 'r', 'i', 'l', 'l', 0, 0, 0, 0, 0, 0, 0, 0, 0, 0,
     21, 22, 23, 24, 25, 26, 27, 31, 32, 33, 34, 35, 36, 0xFF, 3, 41, 42, 43,
-    'D', 'E', 'T', 1, 0, 1, 4, 'm', 'a', 'i', 'n', 5, 0, 0, 0, 1, 0, 7, 1
+    'D', 'E', 'T', 3, 4, 1, 4, 'm', 'a', 'i', 'n', 5, 0, 0, 0, 1, 0, 7, 1,
+    'D', 'E', 'T', 6, 5, 2, 0, 8, 0, 3, 4, 0, 0
+};
+
+/* `named` without its device, with a text that is not UTF-8 and with an element of type 0. */
+enum { FAULTY = 66 };
+
+static const uint8_t faulty[FAULTY] = {
+    'D', 'V', 'P', 9, 2, 0, 0, 0, 0, 0, 0, 0x80, 0x3F, 0, 2, 'k', 'g',
+    'D', 'P', 'T', 7, 1, 0x86, 0, 1, 0, 0, 0, 3, 'o', 0xFF, 't', 9, 2,
+    'D', 'E', 'T', 3, 4, 1, 4, 'm', 'a', 'i', 'n', 5, 0, 0, 0, 1, 0, 7, 1,
+    'D', 'E', 'T', 6, 5, 0, 0, 8, 0, 3, 4, 0, 0
 };
 
 /* A record of each kind, after two other bytes. No byte of a number occurs twice. */

@@ -50,6 +50,20 @@ static void zero(const void *part, size_t size)
 static lachsbrille_record table[ENTRIES];
 static uint16_t faults[2 * LACHSBRILLE_FAULT_WORDS];
 
+/* Checks that the table has the first records of Q, and is otherwise as it was. */
+static void has_records_of_q(size_t records)
+{
+    static const lachsbrille_record of_q[] = {
+        {.start = 0, .length = 31, .kind = LACHSBRILLE_DVC, .id = 0, .parent = LACHSBRILLE_NO_ID},
+        {.start = 31, .length = 13, .kind = LACHSBRILLE_DET, .id = 1, .parent = 0},
+        {.start = 44, .length = 15, .kind = LACHSBRILLE_DET, .id = 2, .parent = 1},
+        {.start = 59, .length = 12, .kind = LACHSBRILLE_DPD, .id = 3, .parent = LACHSBRILLE_NO_ID},
+    };
+
+    SAME(table, of_q, records * sizeof *of_q);
+    left(table + records, (ENTRIES - records) * sizeof *table);
+}
+
 /* A pool that is not read, by any call with a table; all of them leave lent memory as it was. */
 static void not_read(const uint8_t *pool, size_t length, size_t entries, uint32_t name, size_t place)
 {
@@ -62,7 +76,7 @@ static void not_read(const uint8_t *pool, size_t length, size_t entries, uint32_
     REFUSED(lachsbrille_read(pool, length, table, entries, &value), name);
     EQUAL(value, place);
     value = 9;
-    REFUSED(lachsbrille_check(pool, length, table, entries, faults, 6, &value), name);
+    REFUSED(lachsbrille_check(pool, length, table, entries, faults, sizeof faults / sizeof *faults, &value), name);
     EQUAL(value, place);
     REFUSED(lachsbrille_text(pool, length, table, entries, 0, &from, &to), name);
     EQUAL(from, 0);
@@ -101,6 +115,8 @@ static unsigned not_activated(const uint8_t *pool, size_t length, size_t entries
     EQUAL(step.record, name == LACHSBRILLE_FAULTY ? 3 : 0);
     EQUAL(step.rule, name == LACHSBRILLE_FAULTY ? 6 : 0);
     EQUAL(step.item, name == LACHSBRILLE_FAULTY ? 2 : 0);
+    EQUAL(step.id, name == LACHSBRILLE_FAULTY ? 2 : 0);
+    EQUAL(step.parent, name == LACHSBRILLE_FAULTY ? 1 : 0);
     left(kept, sizeof kept);
     if (name != LACHSBRILLE_FAULTY) {
         left(table, sizeof table);
@@ -144,22 +160,22 @@ static void pools(void)
     memset(table, LEFT, sizeof table);
     REFUSED(lachsbrille_text(q, ELEMENT_END, table, ENTRIES, 0, &from, &to), LACHSBRILLE_FAULTY);
     EQUAL(from + to, 0);
-    EQUAL(table[2].start, 44);
+    has_records_of_q(3);
     memset(table, LEFT, sizeof table);
     REFUSED(labels_of(q, ELEMENT_END, table, ENTRIES).number, LACHSBRILLE_FAULTY);
-    EQUAL(table[2].start, 44);
+    has_records_of_q(3);
     memset(table, LEFT, sizeof table);
     REFUSED(lachsbrille_judge(q, ELEMENT_END, table, ENTRIES, 4, 1, 141, 0, &error), LACHSBRILLE_FAULTY);
     EQUAL(error, 0);
-    EQUAL(table[2].start, 44);
+    has_records_of_q(3);
     EQUAL(not_activated(q, ELEMENT_END, ENTRIES, LACHSBRILLE_FAULTY, 0), LACHSBRILLE_STAGE_NONE);
-    EQUAL(table[2].start, 44);
+    has_records_of_q(3);
 
     from = to = 9;
     memset(table, LEFT, sizeof table);
     REFUSED(lachsbrille_text(q, Q, table, ENTRIES, LACHSBRILLE_NO_ID, &from, &to), LACHSBRILLE_NO_SUCH_ID);
     EQUAL(from + to, 0);
-    EQUAL(table[3].start, 59);
+    has_records_of_q(4);
 
     /* Truncated to 16 bits it would be the device's ID. */
     from = to = 9;
@@ -198,6 +214,8 @@ static void step_refused(const char *file, int line, const char *call, lachsbril
     equal(file, line, call, step.record, 0);
     equal(file, line, call, step.rule, 0);
     equal(file, line, call, step.item, 0);
+    equal(file, line, call, step.id, 0);
+    equal(file, line, call, step.parent, 0);
 }
 
 /* Every session call with a session value that can't arise. */

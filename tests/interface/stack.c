@@ -15,12 +15,12 @@
 /* No call takes more than BOUND, whatever it is lent. Pools of up to SHORT_POOL bytes with lists of up to SHORT_LIST entries need shorter
  * internal lists, and the stack that they take is printed. */
 enum { BOUND = 64 << 10, SHORT_POOL = 12276, SHORT_LIST = 64 };
-enum { STACK = 1 << 20, PAGE = 1 << 16, UNUSED = 0xA5 };
+enum { STACK = 1 << 20, PAGE = 1 << 16, UNUSED = 0xA5, FAULTS = 1024 };
 enum { DEVICE = 31, ELEMENT = 13, DATA = 12, LIST_COUNT = 11, LIST = 13, ENTRY = 2 };
 
 static lachsbrille_record table[LACHSBRILLE_RECORDS_MOST];
 static size_t table_length = LACHSBRILLE_RECORDS_MOST;
-static uint16_t faults[LACHSBRILLE_FAULT_WORDS];
+static uint16_t faults[FAULTS * LACHSBRILLE_FAULT_WORDS];
 static uint8_t area[LACHSBRILLE_POOL_MOST], other_area[LACHSBRILLE_POOL_MOST];
 static uint8_t pool[LACHSBRILLE_POOL_MOST + 1];
 static size_t pool_length, longest_list, value, from, to;
@@ -57,7 +57,7 @@ static void read_pool(void)
 
 static void check_pool(void)
 {
-    (void)lachsbrille_check(pool, pool_length, table, table_length, faults, LACHSBRILLE_FAULT_WORDS, &value);
+    (void)lachsbrille_check(pool, pool_length, table, table_length, faults, sizeof faults / sizeof *faults, &value);
 }
 
 static void text(void)

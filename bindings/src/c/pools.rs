@@ -23,7 +23,7 @@ pub fn read(pool: &[u8], table: &mut [Record], value: &mut usize) -> u32 {
     }
 }
 
-/// Checks a pool. The fault buffer consists of words, three per fault. `value`
+/// Checks a pool. The fault buffer consists of words, five per fault. `value`
 /// gets the full count of faults, or the refusal's place.
 #[inline]
 pub fn check(pool: &[u8], table: &mut [Record], faults: &mut [u16], value: &mut usize) -> u32 {

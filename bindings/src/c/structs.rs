@@ -12,17 +12,20 @@ pub struct Record {
     /// 1 DVC, 2 DET, 3 DPD, 4 DPT, 5 DVP.
     pub kind: u16,
     pub id: u16,
+    /// A device element's parent ID as it stands in the pool, whatever it
+    /// names; 65,535 for other kinds.
+    pub parent: u16,
 }
 
 impl Record {
     /// How many words a record has.
-    pub const WORDS: usize = 4;
+    pub const WORDS: usize = 5;
 
     /// Lends words as a table. Words after the last whole record are not lent.
     #[inline]
     pub fn table(words: &mut [u16]) -> &mut [Record] {
         let length = words.len() / Record::WORDS;
-        // SAFETY: a record is four words without padding, is aligned like a
+        // SAFETY: a record is five words without padding, is aligned like a
         // word, and any words are a valid record; `length` whole records are
         // no longer than the words.
         unsafe { slice::from_raw_parts_mut(words.as_mut_ptr().cast(), length) }
@@ -131,8 +134,8 @@ pub struct Session {
     pub active: u16,
 }
 
-/// The session after a call, and the call's answer. A place or fault that the
-/// answer does not have is 0.
+/// The session after a call, and the call's answer. A place that the answer does
+/// not have is 0, and so are all five numbers of a fault that it does not have.
 #[repr(C)]
 #[derive(Clone, Copy, Debug, Default, PartialEq, Eq)]
 #[non_exhaustive]
@@ -143,6 +146,10 @@ pub struct Step {
     pub record: u16,
     pub rule: u16,
     pub item: u16,
+    /// ID of the fault's record.
+    pub id: u16,
+    /// Parent ID of the fault's record.
+    pub parent: u16,
 }
 
 /// The fields of a message. Those that it does not have are 0, as are all

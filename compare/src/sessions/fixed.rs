@@ -1,9 +1,12 @@
 //! Lists of session calls that are the same in every run.
 
 use super::call::Call;
+use crate::accepted;
+use crate::breaches::{breach_in_way, WAYS};
 use crate::fixed::{pool_p, pool_q};
 use crate::library::ENTRY_WORDS;
 use crate::objects::{pool_of, Object};
+use crate::random::Random;
 use crate::realistic::realistic;
 use crate::shape::SHORTEST_RECORD;
 use second::{Kind, MAX_POOL_BYTES};
@@ -11,6 +14,10 @@ use second::{Kind, MAX_POOL_BYTES};
 /// Bytes that are left for a last record, which fills them.
 const FILLED: usize = 40;
 const SHORTEST_PRESENTATION: usize = 15;
+/// Draws the pools with a breach.
+const BREACHED: u64 = 11783;
+/// How many pools there are for each way to breach a rule.
+const BREACHES_EACH: usize = 200;
 
 pub struct Fixed {
     pub name: String,
@@ -38,7 +45,32 @@ pub fn lists(long: bool) -> Vec<Fixed> {
     if long {
         lists.push(sending("65,535 bytes in single bytes", &longest, 1));
     }
+    lists.extend(each_breach());
     lists
+}
+
+/// Pools with a breach, in one piece: every kind of record is at fault in the
+/// first place several times.
+fn each_breach() -> impl Iterator<Item = Fixed> {
+    (0..BREACHES_EACH * WAYS).filter_map(|index| {
+        let random = &mut Random::for_item(BREACHED, index as u64);
+        let mut objects = accepted::objects(random);
+        breach_in_way(index % WAYS, random, &mut objects);
+        let pool = pool_of(&objects);
+        let length = pool.len();
+        let calls = vec![
+            Call::Offer(length),
+            Call::Transfer(pool),
+            Call::Activate(ENTRY_WORDS * objects.len()),
+        ];
+        let list = Fixed {
+            name: format!("breach {index}"),
+            area: length,
+            calls,
+            last: vec![0, 0, 24],
+        };
+        (length <= MAX_POOL_BYTES).then_some(list)
+    })
 }
 
 /// The records of a sound pool of the greatest length.
@@ -92,7 +124,7 @@ fn many_calls() -> Fixed {
     let (p, q) = (pool_p(), pool_q());
     let piece = |bytes: &[u8]| Call::Transfer(bytes.to_vec());
     let calls = vec![
-        (Call::Activate(16), 21),
+        (Call::Activate(4 * ENTRY_WORDS), 21),
         (piece(&q), 21),
         (Call::Deactivate, 25),
         (Call::Offer(0), 20),
@@ -102,16 +134,16 @@ fn many_calls() -> Fixed {
         (piece(&[]), 22),
         (piece(&q[..70]), 0),
         (piece(&q[69..]), 22),
-        (Call::Activate(16), 23),
+        (Call::Activate(4 * ENTRY_WORDS), 23),
         (piece(&q[70..]), 0),
-        (Call::Activate(15), 7),
-        (Call::Activate(16), 0),
+        (Call::Activate(4 * ENTRY_WORDS - 1), 7),
+        (Call::Activate(4 * ENTRY_WORDS), 0),
         (Call::Offer(59), 0),
         (piece(&q[..7]), 0),
         (Call::Offer(81), 26),
         (Call::Offer(59), 0),
         (piece(&q[..59]), 0),
-        (Call::Activate(16), 24),
+        (Call::Activate(4 * ENTRY_WORDS), 24),
         (Call::Deactivate, 0),
         (Call::Activate(0), 0),
         (Call::Offer(70), 0),
@@ -121,9 +153,9 @@ fn many_calls() -> Fixed {
         (Call::Lost, 0),
         (Call::Offer(44), 0),
         (piece(&p), 0),
-        (Call::Activate(8), 0),
+        (Call::Activate(2 * ENTRY_WORDS), 0),
         (Call::Delete, 0),
-        (Call::Activate(8), 21),
+        (Call::Activate(2 * ENTRY_WORDS), 21),
     ];
     let (calls, numbers): (Vec<Call>, Vec<u32>) = calls.into_iter().unzip();
     Fixed {

@@ -10,6 +10,7 @@ use second::{Book, Entry, Fault, Session, Stage};
 const IMPOSSIBLE: u32 = 27;
 
 /// A step that no call gives, so that a field which is not written is noticed.
+/// A fault's IDs may be 65535, so these are numbers that no pool has by chance.
 pub fn unwritten() -> Step {
     let session = Value {
         announced: u32::MAX,
@@ -22,6 +23,8 @@ pub fn unwritten() -> Step {
         record: u16::MAX,
         rule: u8::MAX,
         item: u16::MAX,
+        id: 0xA5C3,
+        parent: 0xC35A,
     };
     step(session, u32::MAX, UNWRITTEN, fault)
 }
@@ -35,6 +38,8 @@ fn step(session: Value, number: u32, place: usize, fault: Fault) -> Step {
     step.record = fault.record;
     step.rule = fault.rule.into();
     step.item = fault.item;
+    step.id = fault.id;
+    step.parent = fault.parent;
     step
 }
 

@@ -3,7 +3,10 @@
 use super::call::Call;
 use super::client::Sides;
 use super::library::{Step, Value};
-use second::MAX_POOL_BYTES;
+use crate::library::ENTRY_WORDS;
+use crate::shape::SHORTEST_RECORD;
+use crate::subjects::Subjects;
+use second::{Fault, Record, MAX_POOL_BYTES};
 
 const BRANCHES_A_LINE: usize = 6;
 
@@ -113,6 +116,8 @@ pub struct Tally {
     branches: [Vec<(&'static str, u64)>; CALLS.len()],
     /// By call and point, for calls of lists.
     points: [[u64; POINTS]; CALLS.len()],
+    /// Faults that activating was refused with.
+    first_faults: Subjects,
 }
 
 impl Tally {
@@ -121,6 +126,7 @@ impl Tally {
         Tally {
             branches: due.map(|own| own.iter().chain(&CAUSES).map(|&it| (it, 0)).collect()),
             points: [[0; POINTS]; CALLS.len()],
+            first_faults: Subjects::of_first("first faults"),
         }
     }
 
@@ -133,6 +139,7 @@ impl Tally {
         sides: &Sides,
         step: &Step,
     ) -> Result<(), String> {
+        self.count_fault(value, sides, step)?;
         let name = branch(value, call, sides, step);
         let mut branches = self.branches[index(call)].iter_mut();
         match branches.find(|(it, _)| *it == name) {
@@ -141,6 +148,26 @@ impl Tally {
                 Ok(())
             }
             None => Err(format!("{name} can't be given: {step:?}")),
+        }
+    }
+
+    /// Counts the fault of an answer. One that has none has zeros in its place.
+    fn count_fault(&mut self, value: &Value, sides: &Sides, step: &Step) -> Result<(), String> {
+        let rule = u8::try_from(step.rule).map_err(|_| format!("{step:?} of no rule"))?;
+        let fault = Fault {
+            record: step.record,
+            rule,
+            item: step.item,
+            id: step.id,
+            parent: step.parent,
+        };
+        match step.number {
+            24 => {
+                let pool = &sides.staging()[..value.announced as usize];
+                self.first_faults.count(&fault, &records(pool))
+            }
+            _ if fault == Fault::default() => Ok(()),
+            _ => Err(format!("an answer without a fault is {step:?}")),
         }
     }
 
@@ -186,6 +213,7 @@ impl Tally {
                 head = "";
             }
         }
+        self.first_faults.print();
     }
 
     /// What should have occurred and did not.
@@ -200,6 +228,7 @@ impl Tally {
                 names.push(format!("{name} at stage {offer}, {keeping}"));
             }
         }
+        names.extend(self.first_faults.unseen());
         names
     }
 }
@@ -240,7 +269,7 @@ fn branch(value: &Value, call: &Call, sides: &Sides, step: &Step) -> &'static st
         }
         (22, Call::Transfer(_)) => "22 for a piece too long",
         (0, Call::Activate(_)) => activated(value),
-        (7, Call::Activate(0..=3)) => "7 with no entry",
+        (7, Call::Activate(words)) if *words < ENTRY_WORDS => "7 with no entry",
         (7, Call::Activate(_)) => "7 with some",
         (23, Call::Activate(_)) if value.received == 0 => "23 with nothing there",
         (24, Call::Activate(_)) => RULES.get(usize::from(step.rule)).unwrap_or(&RULES[0]),
@@ -256,6 +285,14 @@ fn branch(value: &Value, call: &Call, sides: &Sides, step: &Step) -> &'static st
         (26, _) => "26",
         _ => "a number of no call",
     }
+}
+
+/// The records of a pool that is read.
+fn records(pool: &[u8]) -> Vec<Record> {
+    let mut table = vec![Record::default(); pool.len() / SHORTEST_RECORD];
+    let count = second::read_pool(pool, &mut table).unwrap_or(0);
+    table.truncate(count);
+    table
 }
 
 fn short_area(size: usize, staging: usize, kept: usize) -> &'static str {

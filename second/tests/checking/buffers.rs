@@ -8,12 +8,15 @@ const UNTOUCHED: Fault = Fault {
     record: 0xA5A5,
     rule: 0x5A,
     item: 0xC3C3,
+    id: 0x3C3C,
+    parent: 0x9696,
 };
 const UNTOUCHED_RECORD: Record = Record {
     start: 0xA5A5,
     length: 0x5A5A,
     kind: Kind::Dvp,
     id: 0xC3C3,
+    parent: 0x3C3C,
 };
 
 /// A pool with faults of several records and rules, record 0 first.

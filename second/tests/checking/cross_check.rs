@@ -3,7 +3,7 @@
 use crate::literal;
 use crate::pools::{all_faults, pool_of_all_kinds, pool_q, table_for, Bytes};
 use crate::pools::{Det, Dpd, Dpt, Dvc, Dvp};
-use second::{check, read_pool, Fault};
+use second::{check, read_pool, Fault, Kind};
 
 const SEED: u64 = 11783;
 const SMALL_POOLS: usize = 20_000;
@@ -164,16 +164,21 @@ impl Maker {
     }
 }
 
-/// Asserts that both checkers find the same, and gives it.
+/// Asserts that both checkers find the same faults and fill the table alike,
+/// and gives the faults.
 fn agreed_faults(pool: &[u8], name: &str) -> Vec<Fault> {
     let found = all_faults(pool);
     assert_eq!(found, literal::breaches(pool), "{name}");
+    let mut table = table_for(pool);
+    let count = read_pool(pool, &mut table).unwrap();
+    assert_eq!(table[..count], literal::entries(pool), "{name}");
     found
 }
 
 #[test]
 fn random_small_pools() {
     let mut breached = [0; 13];
+    let (mut of_pool, mut with_parent, mut without_parent) = (0, 0, 0);
     for index in 0..SMALL_POOLS {
         let state = SEED.wrapping_add((index as u64) << 32);
         let mut random = Random { state };
@@ -185,13 +190,21 @@ fn random_small_pools() {
             ids,
             most_entries,
         };
-        let found = agreed_faults(&maker.pool(records), &format!("small pool {index}"));
-        found
-            .iter()
-            .for_each(|fault| breached[usize::from(fault.rule)] += 1);
+        let pool = maker.pool(records);
+        let entries = literal::entries(&pool);
+        for fault in agreed_faults(&pool, &format!("small pool {index}")) {
+            breached[usize::from(fault.rule)] += 1;
+            match usize::from(fault.record).checked_sub(1) {
+                None => of_pool += 1,
+                Some(at) if entries[at].kind == Kind::Det => with_parent += 1,
+                Some(_) => without_parent += 1,
+            }
+        }
     }
     // Pools that seldom breach a rule would not test it.
     assert!(breached[1..].iter().all(|&count| count > 1_000));
+    let by_object = [of_pool, with_parent, without_parent];
+    assert!(by_object.iter().all(|&count| count > 1_000));
 }
 
 #[test]

@@ -8,6 +8,7 @@ const UNTOUCHED: Record = Record {
     length: 0x5A5A,
     kind: Kind::Dvp,
     id: 0xC3C3,
+    parent: 0x3C3C,
 };
 
 /// The judgement of a command to an element and a DDI, with its value.

@@ -1,11 +1,14 @@
 //! The rule table taken word for word, without regard to speed: every rule
-//! searches the pool anew. It reads the pool's fields on its own.
+//! searches the pool anew. It reads the pool's fields on its own, and from
+//! these it has the working table too.
 
-use second::Fault;
+use second::{Fault, Kind, Record};
 
 const NO_REFERENCE: u16 = 65_535;
 
 struct Item<'a> {
+    start: usize,
+    length: usize,
     mark: &'a [u8],
     id: u16,
     texts: Vec<&'a [u8]>,
@@ -28,10 +31,16 @@ pub fn breaches(pool: &[u8]) -> Vec<Fault> {
     let items = items(pool);
     let mut breaches = Vec::new();
     let mut report = |record: usize, rule, item: usize| {
+        let (id, parent) = match record {
+            0 => (65_535, 65_535),
+            _ => (items[record - 1].id, items[record - 1].parent),
+        };
         breaches.push(Fault {
             record: record as u16,
             rule,
             item: item as u16,
+            id,
+            parent,
         });
     };
     if !items.iter().any(|item| item.mark == b"DVC") {
@@ -48,8 +57,26 @@ pub fn breaches(pool: &[u8]) -> Vec<Fault> {
             report(at + 1, rule, item);
         }
     }
-    breaches.sort();
+    breaches.sort_by_key(|fault| (fault.record, fault.rule, fault.item));
     breaches
+}
+
+/// The entries of the working table for a pool that divides into records.
+pub fn entries(pool: &[u8]) -> Vec<Record> {
+    let entry = |item: &Item| Record {
+        start: item.start as u16,
+        length: item.length as u16,
+        kind: match item.mark {
+            b"DVC" => Kind::Dvc,
+            b"DET" => Kind::Det,
+            b"DPD" => Kind::Dpd,
+            b"DPT" => Kind::Dpt,
+            _ => Kind::Dvp,
+        },
+        id: item.id,
+        parent: item.parent,
+    };
+    items(pool).iter().map(entry).collect()
 }
 
 fn breaches_of_record(items: &[Item], at: usize) -> Vec<(u8, usize)> {
@@ -215,7 +242,11 @@ fn items(pool: &[u8]) -> Vec<Item<'_>> {
     let mut cursor = Cursor { rest: pool };
     let mut items = Vec::new();
     while !cursor.rest.is_empty() {
-        items.push(cursor.item());
+        let start = pool.len() - cursor.rest.len();
+        let mut item = cursor.item();
+        item.start = start;
+        item.length = pool.len() - cursor.rest.len() - start;
+        items.push(item);
     }
     items
 }
@@ -246,6 +277,8 @@ impl<'a> Cursor<'a> {
 
     fn item(&mut self) -> Item<'a> {
         let mut item = Item {
+            start: 0,
+            length: 0,
             mark: self.take(3),
             id: self.number(),
             texts: Vec::new(),
@@ -253,7 +286,7 @@ impl<'a> Cursor<'a> {
             localization: &[],
             element_type: 0,
             number: 0,
-            parent: 0,
+            parent: 65_535,
             entries: Vec::new(),
             ddi: 0,
             properties: 0,

@@ -12,6 +12,7 @@ mod literal_logs;
 mod log_refusals;
 mod logs;
 mod messages;
+mod objects;
 mod pools;
 mod queries;
 mod ranges;

@@ -264,6 +264,17 @@ pub fn all_faults(pool: &[u8]) -> Vec<Fault> {
     buffer
 }
 
+/// A fault by its five numbers.
+pub const fn fault(record: u16, rule: u8, item: u16, id: u16, parent: u16) -> Fault {
+    Fault {
+        record,
+        rule,
+        item,
+        id,
+        parent,
+    }
+}
+
 /// All faults of a pool that is read, as record, rule and item.
 pub fn faults(pool: &[u8]) -> Vec<(u16, u8, u16)> {
     all_faults(pool)

@@ -1,6 +1,6 @@
 //! Lists of session calls, by the session and by the book.
 
-use crate::pools::{pool_p, pool_q};
+use crate::pools::{after_device, fault, pool, pool_p, pool_q, Det, Dpd, Dvc};
 use second::{Book, Entry, Fault, Record, Session, Stage};
 
 /// A session with its areas, and the book of the same calls.
@@ -105,12 +105,7 @@ const fn number(number: u8) -> Answer {
 }
 
 const fn refusal(number: u8, place: usize) -> Answer {
-    let fault = Fault {
-        record: 0,
-        rule: 0,
-        item: 0,
-    };
-    (number, place, fault)
+    (number, place, fault(0, 0, 0, 0, 0))
 }
 
 const DONE: Answer = number(0);
@@ -156,12 +151,7 @@ fn a_list_of_many_calls() {
     assert_eq!(client.offer(59), DONE);
     assert_eq!(client.fields(), (true, 59, 0, 71, true));
     assert_eq!(client.transfer(&q[..59]), DONE);
-    let fault = Fault {
-        record: 3,
-        rule: 6,
-        item: 2,
-    };
-    assert_eq!(client.activate(4), (24, 0, fault));
+    assert_eq!(client.activate(4), (24, 0, fault(3, 6, 2, 2, 1)));
     assert_eq!(client.fields(), (false, 0, 0, 71, true));
     assert_eq!(client.kept[..71], q);
 
@@ -190,6 +180,48 @@ fn a_list_of_many_calls() {
     assert_eq!(client.lost(), DONE);
     assert_eq!(client.staging[44..71], q[44..]);
     assert_eq!(client.staging[71..], [0xA5; 29]);
+}
+
+/// The first fault names its object: record 0, a device, an element with a
+/// parent that names nothing, process data with a bad ID.
+#[test]
+fn a_faulty_pool_is_24_with_five_numbers() {
+    let device = Dvc {
+        texts: [b"\xFF", b"", b""],
+        ..Dvc::default()
+    };
+    let element = Det {
+        id: 2,
+        designator: b"tank",
+        number: 1,
+        parent: 9,
+        entries: &[8],
+        ..Det::default()
+    };
+    let data = Dpd {
+        id: 65_535,
+        ..Dpd::default()
+    };
+    let mut parent_1 = pool_p();
+    parent_1[40] = 1;
+    for (pool, first) in [
+        (pool_p()[..31].to_vec(), fault(0, 11, 1, 65_535, 65_535)),
+        (pool(&[&data]), fault(0, 10, 1, 65_535, 65_535)),
+        (pool(&[&device, &Det::root()]), fault(1, 4, 1, 0, 65_535)),
+        (pool_q()[..59].to_vec(), fault(3, 6, 2, 2, 1)),
+        (parent_1, fault(2, 9, 1, 1, 1)),
+        (after_device(&[&element, &data]), fault(3, 6, 1, 2, 9)),
+        (
+            after_device(&[&data, &element]),
+            fault(3, 1, 1, 65_535, 65_535),
+        ),
+    ] {
+        let mut client = Client::new(pool.len(), pool.len());
+        assert_eq!(client.offer(pool.len()), DONE);
+        assert_eq!(client.transfer(&pool), DONE);
+        assert_eq!(client.activate(4), (24, 0, first));
+        assert_eq!(client.session, Session::new());
+    }
 }
 
 #[test]

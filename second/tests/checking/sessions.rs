@@ -9,6 +9,7 @@ const UNTOUCHED: Record = Record {
     length: 0x5A5A,
     kind: Kind::Dvp,
     id: 0xC3C3,
+    parent: 0x3C3C,
 };
 
 fn offered(announced: usize, received: usize) -> Session {

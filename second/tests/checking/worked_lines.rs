@@ -1,7 +1,7 @@
 //! The worked lines that are about checking.
 
 use crate::pools::{faults, pool_p, pool_q};
-use second::{check, Fault, Record, Refusal};
+use second::{check, list, Fault, Record, Refusal};
 
 const NO_FAULTS: [(u16, u8, u16); 0] = [];
 
@@ -11,6 +11,13 @@ fn refusal(pool: &[u8]) -> Option<(u8, usize)> {
         return None;
     };
     Some((number, place))
+}
+
+/// The fault lines that the lister prints.
+fn fault_lines(pool: &[u8]) -> Vec<String> {
+    let output = list(pool);
+    let lines = output.lines().filter(|line| line.starts_with("fault"));
+    lines.map(str::to_owned).collect()
 }
 
 #[test]
@@ -31,12 +38,16 @@ fn p_and_q_have_no_fault() {
 
 #[test]
 fn the_device_alone_lacks_an_element_of_type_1() {
-    assert_eq!(faults(&pool_p()[..31]), [(0, 11, 1)]);
+    let pool = &pool_p()[..31];
+    assert_eq!(faults(pool), [(0, 11, 1)]);
+    assert_eq!(fault_lines(pool), ["fault 0 11 1 65535 65535"]);
 }
 
 #[test]
 fn without_its_process_data_the_entry_of_q_names_nothing() {
-    assert_eq!(faults(&pool_q()[..59]), [(3, 6, 2)]);
+    let pool = &pool_q()[..59];
+    assert_eq!(faults(pool), [(3, 6, 2)]);
+    assert_eq!(fault_lines(pool), ["fault 3 6 2 2 1"]);
 }
 
 #[test]
@@ -49,6 +60,7 @@ fn an_element_that_is_its_own_parent_never_ends() {
     let mut pool = pool_p();
     pool[40] = 1;
     assert_eq!(faults(&pool), [(2, 9, 1)]);
+    assert_eq!(fault_lines(&pool), ["fault 2 9 1 1 1"]);
 }
 
 #[test]
@@ -57,6 +69,7 @@ fn a_designator_of_128_bytes_is_a_fault_and_129_a_refusal() {
     pool[5] = 128;
     pool.splice(6..6, [b'a'; 128]);
     assert_eq!(faults(&pool), [(1, 4, 1)]);
+    assert_eq!(fault_lines(&pool), ["fault 1 4 1 0 65535"]);
     pool[5] = 129;
     assert_eq!(refusal(&pool), Some((5, 5)));
 }
