@@ -21,7 +21,7 @@
  *
  *     read                 11,100
  *     check                59,200
- *     text                 59,400
+ *     text                 59,500
  *     labels               59,600
  *     judge                59,400
  *     session_activate     59,200

@@ -53,6 +53,13 @@ impl Case {
         }
     }
 
+    /// The same with buffers that have room for all faults of the pool.
+    pub fn with_room_for_all(mut self) -> Self {
+        self.fault_words.resize(FAULT_WORDS * self.faults, 0);
+        self.buffer.resize(self.faults, Fault::default());
+        self
+    }
+
     pub fn records(&self) -> usize {
         self.records
     }

@@ -13,15 +13,27 @@ const FEWEST_ROUNDS: usize = 11;
 const MOST_ROUNDS: usize = 121;
 /// Microseconds of a round: long compared with the clock's resolution.
 const ROUND: f64 = 500.0;
+/// Pools that are also checked with a buffer for all of their faults.
+const ALL_WRITTEN: [&str; 2] = ["entries name nothing", "most faults"];
 
 /// Next to the times is the ratio of the library's time to its own for a sound
 /// pool of the same size: the worst that an implement can do to a terminal.
 pub fn bench() -> Result<Group, String> {
+    let pools = extremes(MAX_POOL_BYTES);
+    for name in ALL_WRITTEN {
+        if !pools.iter().any(|it| it.name == name) {
+            return Err(format!("there is no pool \"{name}\""));
+        }
+    }
     let mut rows = Vec::new();
-    for extreme in extremes(MAX_POOL_BYTES) {
+    for extreme in pools {
         let case = Case::new(&extreme.objects);
         case.compare(Work::Check)?;
         rows.push(bench_case(extreme.name, case));
+        if ALL_WRITTEN.contains(&extreme.name) {
+            let case = Case::new(&extreme.objects).with_room_for_all();
+            rows.push(bench_case("all of them written", case));
+        }
     }
     Ok(Group {
         name: "hostile",
