@@ -9,7 +9,7 @@ use native.Mathlib.Decide.{decLe}
 use native.Mathlib.Nat.{zero-add}
 use lib.ListN.{length, take, drop}
 use lib.Seq.{sets, sets-eq, take-all, length-take-le}
-use Rattle.faults.specs.Faults.{Fault, FaultEntry, entryFor, width, flat, written}
+use Rattle.faults.specs.Faults.{FaultEntry, entryFor, width, flat, written}
 use Rattle.division.specs.Division.{Division, Divides}
 use Rattle.pool.specs.Answer.{answer}
 use Rattle.pool.specs.Reading.{readOf, scanOf, entriesIn}

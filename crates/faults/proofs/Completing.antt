@@ -1,10 +1,9 @@
 -- The IDs behind written faults. Assumes nothing.
-use mathlib.Core.Path.{_≡_, refl, sym, ap, ap₂, _∙_}
+use mathlib.Core.Path.{_≡_, refl, sym, ap, _∙_}
 use mathlib.Core.List.{List, [], _∷_, _++_, map, append-assoc, List·Memᴰ, List·Memᴰ·head, List·Memᴰ·tail, List·Memᴰ·not-nil, List·Memᴰ·cases-cons}
 use mathlib.Core.Logic.{⊎-elim}
 use Prim.Native.Nat.{ℕ, zero, suc, _+_, _-_, _*_, _/_, _≤_, _<_}
 use native.Mathlib.Nat.{zero-add, suc-add}
-use native.Mathlib.Numerals.{add-one}
 use native.Mathlib.Omega.{arith}
 use lib.ListN.{length, getD, set, take, drop, length-append, length-take}
 use lib.Seq.{sets, sets-eq, length-sets, length-take-le, take-all, getD-at, getD-set-other}
@@ -19,14 +18,12 @@ use Rattle.faults.specs.Completing.{idsOf, namedFrom, Below, Laid, Unnam
 -- ---- the IDs of a listed record stand in the pool
 
 pub ids-read : (p starts : List ℕ) (number : ℕ) → (number ≡ 0 → ⊥) → number < length starts
-    → idsOf (entriesOf p starts) number ≡ idOf p (getD starts (number - 1) 0) ∷ parentIdOf p (getD starts (number - 1) 0) ∷ []
+    → (idOf p (getD starts (number - 1) 0) ≡ recordId (entriesOf p starts) number) × (parentIdOf p (getD starts (number - 1) 0) ≡ recordParent (entriesOf p starts) number)
 ids-read p starts zero some l = absurd (some refl)
 ids-read p starts (suc i) some l =
     let same : suc i - 1 ≡ i = omega arith in
-    rw same (ap (λ (e : Entry). e .id ∷ e .parent ∷ []) (entry-at p starts noEntry i l))
-
-pub ids-none : (es : List Entry) (number : ℕ) → number ≡ 0 → 65535 ∷ 65535 ∷ [] ≡ idsOf es number
-ids-none es number e = rw e
+    let entry = sym (entry-at p starts noEntry i l) in
+    (rw same (ap (λ (e : Entry). e .id) entry), rw same (ap (λ (e : Entry). e .parent) entry))
 
 -- two stores, one behind the other
 pub ids-stored : (b ids : List ℕ) (at x y : ℕ) → x ∷ y ∷ [] ≡ ids → set (set b (at + 3) x) (at + 4) y ≡ sets b (at + 3) ids

@@ -3,37 +3,55 @@
 use super::WIDTH;
 use records::view;
 ghost use mathlib.Core.Path.{_≡_};
-ghost use Prim.Native.Nat.{_+_, _≤_, _<_};
-ghost use lib.ListN.{length, getD};
-ghost use lib.Seq.{sets};
+ghost use Prim.Native.Nat.{_<_};
+ghost use lib.ListN.{length};
 ghost use Rattle.pool.specs.Walk.{entriesOf, Divided};
-ghost use Rattle.faults.specs.Faults.{width};
-ghost use Rattle.faults.specs.Completing.{idsOf, namedFrom, Below, Unnamed, Completed};
+ghost use Rattle.faults.specs.Faults.{recordId, recordParent};
+ghost use Rattle.faults.specs.Completing.{namedFrom, Below, Unnamed, Completed};
 
-// Writes the two IDs of the fault that starts at a place of the buffer. The whole pool, record 0, has none.
-fn name_object(p: &[u8], starts: &[u16], buffer: &mut [u16], at: usize)
-    requires { ⌜ Divided (now p) (now starts) × (at + width ≤ length (now buffer)) × (getD (now buffer) at 0 < length (now starts)) ⌝ }
-    ensures { λ _. ⌜ now (buffer .exit) ≡ sets (now (buffer .entry)) (at + 3) (idsOf (entriesOf (now (p .entry)) (now (starts .entry))) (getD (now (buffer .entry)) at 0)) ⌝ }
-{
-    let number = buffer[at] as usize;
-    if number == 0 {
-        buffer[at + 3] = 65535;
-        buffer[at + 4] = 65535;
-        return;
-    }
-    let start = starts[number - 1];
-    buffer[at + 3] = view::id(p, start);
-    buffer[at + 4] = view::parent_id(p, start);
+struct Ids {
+    id: u16,
+    parent: u16,
 }
 
-// The same for the first n faults of the buffer.
+// The two IDs of the record with a number. The whole pool, record 0, has none.
+fn ids_of(p: &[u8], starts: &[u16], number: u16) -> Ids
+    requires { ⌜ Divided (now p) (now starts) × (number < length (now starts)) ⌝ }
+    ensures { λ r. ⌜ (r .id ≡ recordId (entriesOf (now (p .entry)) (now (starts .entry))) number) × (r .parent ≡ recordParent (entriesOf (now (p .entry)) (now (starts .entry))) number) ⌝ }
+{
+    if number == 0 {
+        return Ids {
+            id: 65535,
+            parent: 65535,
+        };
+    }
+    let start = starts[number as usize - 1];
+    Ids {
+        id: view::id(p, start),
+        parent: view::parent_id(p, start),
+    }
+}
+
+// Writes the two IDs of each of the first n faults of the buffer. Faults of one record follow each other, so its IDs are read once.
 fn name_first(p: &[u8], starts: &[u16], buffer: &mut [u16], n: usize)
     requires { ⌜ Divided (now p) (now starts) × Below (length (now starts)) (now buffer) n ⌝ }
     ensures { λ _. ⌜ now (buffer .exit) ≡ namedFrom (entriesOf (now (p .entry)) (now (starts .entry))) 0 n (now (buffer .entry)) ⌝ }
 {
+    let mut known: u16 = 0;
+    let mut id: u16 = 65535;
+    let mut parent: u16 = 65535;
     let mut i: usize = 0;
     while i < n {
-        name_object(p, starts, buffer, i * WIDTH);
+        let at = i * WIDTH;
+        let number = buffer[at];
+        if number != known {
+            let ids = ids_of(p, starts, number);
+            known = number;
+            id = ids.id;
+            parent = ids.parent;
+        }
+        buffer[at + 3] = id;
+        buffer[at + 4] = parent;
         i += 1;
     }
 }
