@@ -10,6 +10,7 @@ use native.Mathlib.Nat.{zero-add}
 use lib.ListN.{length, take, drop}
 use lib.Seq.{sets, sets-eq, take-all, length-take-le}
 use Rattle.faults.specs.Faults.{FaultEntry, entryFor, width, flat, written}
+use Rattle.faults.proofs.Completing.{flat-long}
 use Rattle.division.specs.Division.{Division, Divides}
 use Rattle.pool.specs.Answer.{answer}
 use Rattle.pool.specs.Reading.{readOf, scanOf, entriesIn}
@@ -19,10 +20,6 @@ use Rattle.checker.specs.Checking.{checkOf, reported, faultsAfter}
 use Rattle.claims.specs.Reads.{listed, Sized, Reads}
 use Rattle.claims.specs.Checks.{Holds, Checked, Checks}
 use Rattle.claims.proofs.Verdict.{reading}
-
-flat-length : (fs : List FaultEntry) → length (flat fs) ≡ width * length fs
-flat-length [] = refl
-flat-length (f ∷ fs) = let h = flat-length fs in omega arith
 
 laid-over : (xs b : List ℕ) (n : ℕ) → length xs ≡ n → n ≤ length b → sets b 0 xs ≡ xs ++ drop n b
 laid-over xs b n l h = sets-eq xs b 0 (omega (arith, l, h)) ∙ rw (zero-add (length xs), l)
@@ -35,7 +32,7 @@ holds before fs = go (decLe (length before / width) (length fs))
     go : Dec (length before / width ≤ length fs) → Holds before fs (sets before 0 (flat (take (length before / width) fs)))
     go (yes h) =
         let n = length before / width in
-        let k : length (flat (take n fs)) ≡ width * n = flat-length (take n fs) ∙ ap (λ (m : ℕ). width * m) (length-take-le n fs h) in
+        let k : length (flat (take n fs)) ≡ width * n = flat-long (take n fs) ∙ ap (λ (m : ℕ). width * m) (length-take-le n fs h) in
         record { count = n; some = h; fits = omega arith; most = inr (omega arith); same = laid-over (flat (take n fs)) before (width * n) k (omega arith) }
     go (no h) =
         let l : length fs ≤ length before / width = omega (arith, h) in
@@ -46,7 +43,7 @@ holds before fs = go (decLe (length before / width) (length fs))
           some = omega arith;
           fits = omega (arith, l);
           most = inl refl;
-          same = rw (e, a) (laid-over (flat fs) before (width * length fs) (flat-length fs) (omega (arith, l)));
+          same = rw (e, a) (laid-over (flat fs) before (width * length fs) (flat-long fs) (omega (arith, l)));
         }
 
 pub checking : Checks

@@ -72,7 +72,7 @@ named-behind es (f ∷ fs) front rest k l =
 
 -- ---- what a check has written
 
-flat-long : (es : List FaultEntry) → length (flat es) ≡ width * length es
+pub flat-long : (es : List FaultEntry) → length (flat es) ≡ width * length es
 flat-long [] = refl
 flat-long (e ∷ es) = let h = flat-long es in omega arith
 

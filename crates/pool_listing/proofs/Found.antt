@@ -8,6 +8,7 @@ use native.Mathlib.Numerals.{add-one}
 use lib.ListN.{length, getD, take, drop, length-take}
 use lib.Seq.{getD-drop, take-take, take-all, sets, sets-eq}
 use Rattle.faults.specs.Faults.{FaultEntry, faultEntry, width, flat, written}
+use Rattle.faults.proofs.Completing.{flat-long}
 use Rattle.listing.specs.Lines.{faultLine, acceptedLine}
 use Rattle.pool_listing.specs.Listing.{faultLines, findings}
 use Rattle.pool_listing.specs.Parts.{Held, faultsIn}
@@ -47,10 +48,6 @@ pub fault-more : (i : ℕ) (b : List ℕ) → faultLines (faultsIn (i + 1) b)
     ≡ faultLines (faultsIn i b) ++ faultLine (getD b (width * i) 0) (getD b (width * i + 1) 0) (getD b (width * i + 2) 0) (getD b (width * i + 3) 0) (getD b (width * i + 4) 0)
 unfolding faultAt
 fault-more i b = rw (add-one i) (ap faultLines (more i b) ∙ lines-more (faultsIn i b) (faultAt b (width * i)))
-
-flat-long : (fs : List FaultEntry) → length (flat fs) ≡ width * length fs
-flat-long [] = refl
-flat-long (f ∷ fs) = let l = flat-long fs in omega arith
 
 front : (n : ℕ) (fs : List FaultEntry) (rest : List ℕ) → n ≤ length fs → faultsIn n (flat fs ++ rest) ≡ take n fs
 unfolding faultsIn
