@@ -25,4 +25,4 @@ use Rattle.cases.specs.Objects.{Objects}
 
 pub computed : Hold cases × Worked × Objects
 unfolding leOf numberAt signedOf mark layout markOf fieldEnd extentOf fieldAt idOf parentIdOf deviceOf elementOf entryOf processDataOf propertyOf presentationOf scanFrom scanOf readOf width charactersIn soundText upTo inRows inRecords firstOf named parentOf climb tagOf among repeats unsound doubled kindRows breachesIn breachesOf written checkOf reported faultsAfter recordsAfter noted bookOf saidOf acceptance messages.readOf elementFor entryFor objectError errorOf judgeNumber judgeError
-computed = ((refl, (refl, (refl, (refl, (refl, (refl, (refl, (refl, (refl, (refl, (refl, (refl, (refl, (refl, (refl, (refl, tt)))))))))))))))), record { told = refl; kept = refl; still = refl; gone = refl }, record { element = refl; whole-pool = refl; own-parent = refl; device = refl; one = refl; none = refl; table = refl })
+computed = ((refl, (refl, (refl, (refl, (refl, (refl, (refl, (refl, (refl, (refl, (refl, (refl, (refl, (refl, (refl, (refl, tt)))))))))))))))), record { told = refl; kept = refl; still = refl; gone = refl }, record { element = refl; whole-pool = refl; own-parent = refl; device = refl; one = refl; none = refl; table = refl; entry = refl; faults = refl })
