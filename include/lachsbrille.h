@@ -60,7 +60,7 @@ extern "C" {
 /* ---- Numbers ------------------------------------------------------------------------------------------------------- */
 
 /** The release that this header belongs to: major * 10,000 + minor * 100 + patch. lachsbrille_version gives that of the library. */
-#define LACHSBRILLE_VERSION 20100u
+#define LACHSBRILLE_VERSION 20000u
 
 /** Why a call is refused. docs/REFUSALS.md has a line for each, with its cause and what to do about it. */
 enum lachsbrille_refusal {

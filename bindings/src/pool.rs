@@ -328,18 +328,6 @@ mod tests {
     }
 
     #[test]
-    fn a_second_element_of_type_1_is_a_fault_of_the_whole_pool() {
-        const SECOND_TYPE: usize = 49;
-        let mut pool = q();
-        pool[SECOND_TYPE] = 1;
-        let mut faults = [NO_FAULT; 2];
-        assert_eq!(check(&pool, &mut [UNTOUCHED; 4], &mut faults), Ok(1));
-        assert_eq!(faults, [fault(0, 11, 1, NO_ID, NO_ID), NO_FAULT]);
-        pool[SECOND_TYPE] = 2;
-        assert_eq!(check(&pool, &mut [UNTOUCHED; 4], &mut []), Ok(0));
-    }
-
-    #[test]
     fn a_text_is_a_part_of_the_pool() {
         let pool = crate::pools::named();
         let mut table = [UNTOUCHED; 3];

@@ -1,8 +1,6 @@
 //! Pools without a fault, of many shapes and sizes.
 
-use crate::objects::{
-    Object, DEVICE_TYPE, GREATEST_NUMBER, GREATEST_SCALE, LEAST_SCALE, OTHER_TYPES,
-};
+use crate::objects::{Object, DEVICE_TYPE, GREATEST_NUMBER, GREATEST_SCALE, LEAST_SCALE};
 use crate::random::Random;
 use crate::shape::LABEL_LIMIT;
 use crate::wording::sound_text;
@@ -14,6 +12,8 @@ const IDS: usize = 65_534;
 /// Steps that lead through all IDs, and through all element numbers.
 const STEPS: [usize; 5] = [1, IDS - 1, 255, 257, 40_503];
 const NUMBER_STEPS: [usize; 4] = [1, 4_095, 257, 1_501];
+/// Types of device elements other than device.
+const OTHER_TYPES: [u8; 6] = [2, 3, 4, 5, 6, 7];
 
 /// How many records there are of each kind, and how they are connected.
 struct Plan {
@@ -291,7 +291,7 @@ fn unused_number(random: &mut Random, objects: &[Object]) -> u16 {
 #[cfg(test)]
 mod tests {
     use super::*;
-    use crate::objects::{pool_of, root_count};
+    use crate::objects::pool_of;
     use second::Record;
 
     #[test]
@@ -307,7 +307,8 @@ mod tests {
     fn drawn_pools_have_one_element_of_type_device() {
         for index in 0..2_000 {
             let objects = objects(&mut Random::for_item(11783, index));
-            assert_eq!(root_count(&objects), 1, "{index}");
+            let roots = objects.iter().filter(|it| it.is_root_element());
+            assert_eq!(roots.count(), 1, "{index}");
         }
     }
 }

@@ -1,10 +1,7 @@
 //! Changes to a pool's records, each of which certainly breaches a rule.
 
 use crate::accepted::{fresh, unused_id};
-use crate::objects::{
-    named, root_count, Object, DEVICE_TYPE, GREATEST_NUMBER, GREATEST_SCALE, LEAST_SCALE,
-    NO_REFERENCE,
-};
+use crate::objects::{named, Object, GREATEST_NUMBER, GREATEST_SCALE, LEAST_SCALE, NO_REFERENCE};
 use crate::random::Random;
 use crate::shape::KINDS;
 use crate::wording::unsound_text;
@@ -25,22 +22,13 @@ impl Breach {
         } = *fault;
         Breach { record, rule, item }
     }
-
-    /// The breach of a rule about the whole pool.
-    pub fn of_pool(rule: u8) -> Self {
-        Breach {
-            record: 0,
-            rule,
-            item: 1,
-        }
-    }
 }
 
 /// Makes a change and gives a breach that the pool then has; the change may
 /// cause others too.
 type Way = fn(&mut Random, &mut Vec<Object>) -> Breach;
 
-const BREACHES: [Way; 23] = [
+const BREACHES: [Way; 22] = [
     own_id,
     repeated_id,
     another_device,
@@ -62,7 +50,6 @@ const BREACHES: [Way; 23] = [
     repeated_number,
     ring,
     whole_pool,
-    further_root,
     repeated_ddi,
 ];
 /// How many ways there are to breach a rule.
@@ -377,28 +364,11 @@ fn whole_pool(random: &mut Random, objects: &mut Vec<Object>) -> Breach {
             roots.for_each(|it| it.element_type = other);
         }
     }
-    Breach::of_pool(rule)
-}
-
-/// Makes elements of type device until there are two or more: out of elements
-/// of other types, as copies, and new ones, often in the last record.
-fn further_root(random: &mut Random, objects: &mut Vec<Object>) -> Breach {
-    let wanted = random.pick(&[2, 2, 2, 3, 6]);
-    while root_count(objects) < wanted {
-        let index = some(random, objects, Kind::Det);
-        let mut root = match random.below(4) {
-            0 | 1 => fresh(random, objects, Kind::Det),
-            2 => objects[index].clone(),
-            _ => {
-                objects[index].element_type = DEVICE_TYPE;
-                continue;
-            }
-        };
-        root.element_type = DEVICE_TYPE;
-        let any = random.below(objects.len() + 1);
-        objects.insert(random.pick(&[any, objects.len()]), root);
+    Breach {
+        record: 0,
+        rule,
+        item: 1,
     }
-    Breach::of_pool(11)
 }
 
 /// Puts two entries with one DDI into a list, and often others between them

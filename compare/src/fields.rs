@@ -3,14 +3,13 @@
 
 use crate::breaches::{Breach, UNFIT_SCALES};
 use crate::input::{Class, Input, Known};
-use crate::objects::{Object, DEVICE_TYPE, GREATEST_SCALE, LEAST_SCALE};
+use crate::objects::{Object, GREATEST_SCALE, LEAST_SCALE};
 use crate::shape::LABEL_LIMIT;
 use crate::wording::{MALFORMED, MARK};
 use second::Kind;
 
 /// Records of the pool. No other record names the last four.
 const DEVICE: usize = 1;
-const ROOT: usize = 2;
 const ELEMENT: usize = 7;
 const PROCESS_DATA: usize = 8;
 const PROPERTY: usize = 9;
@@ -158,8 +157,12 @@ impl Sweep {
 
     fn elements(&mut self) {
         for value in 0..=255 {
-            self.element_type(ROOT, value);
-            self.element_type(ELEMENT, value);
+            let breaches = match value {
+                1..=7 => &[][..],
+                _ => &[(5, 1)],
+            };
+            let name = format!("type {value}");
+            self.change(ELEMENT, name, |it| it.element_type = value, breaches);
         }
         for number in [
             0, 1, 2, 3, 255, 256, 257, 4_094, 4_095, 4_096, 4_097, 8_192, 32_768, 65_535,
@@ -172,24 +175,6 @@ impl Sweep {
             let name = format!("number {number}");
             self.change(ELEMENT, name, |it| it.number = number, breaches);
         }
-    }
-
-    /// The root element needs the type device, and no other element may have it.
-    fn element_type(&mut self, record: usize, value: u8) {
-        let mut breaches = Vec::new();
-        if (record == ROOT) != (value == DEVICE_TYPE) {
-            breaches.push(Breach::of_pool(11));
-        }
-        if !(1..=7).contains(&value) {
-            breaches.push(Breach {
-                record: record as u16,
-                rule: 5,
-                item: 1,
-            });
-        }
-        let name = format!("type {value}, record {record}");
-        let change = |it: &mut Object| it.element_type = value;
-        self.push(record, name, change, Known::Breaches(breaches));
     }
 
     fn process_data(&mut self) {

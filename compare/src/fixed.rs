@@ -7,7 +7,6 @@ use crate::fields;
 use crate::input::{Class, Input, Known};
 use crate::random::Random;
 use crate::realistic::realistic;
-use crate::roots;
 use crate::shape::{Pool, Shape, KINDS, SHORTEST_RECORD};
 use crate::vectors::{self, Vector};
 use crate::verdict::Effort;
@@ -35,7 +34,6 @@ pub fn inputs() -> io::Result<Vec<Input>> {
     inputs.extend(vectors.into_iter().map(|vector| {
         Input::new(Class::Vectors, vector.name, vector.pool).knowing(Known::Output(vector.output))
     }));
-    inputs.extend(root_inputs());
     inputs.extend(each_breach());
     inputs.extend(edges());
     inputs.extend(realistic_inputs());
@@ -270,14 +268,6 @@ fn realistic_inputs() -> impl Iterator<Item = Input> {
                 .knowing(Known::Breaches(Vec::new()))
                 .with(Effort::Exhaustive)
         })
-}
-
-/// Pools with none, one and several elements of type device.
-fn root_inputs() -> impl Iterator<Item = Input> {
-    roots::pools().into_iter().map(|pool| {
-        let known = Known::Breaches(pool.breaches);
-        Input::of_objects(Class::Roots, pool.name, pool.objects).knowing(known)
-    })
 }
 
 /// Each breach several times, so that even a run without seeded pools has all.

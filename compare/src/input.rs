@@ -17,7 +17,6 @@ pub enum Class {
     Changes,
     Fields,
     Realistic,
-    Roots,
     Extremes,
     Sound,
     Mutated,
@@ -29,7 +28,7 @@ pub enum Class {
 }
 
 impl Class {
-    pub const ALL: [Class; 18] = [
+    pub const ALL: [Class; 17] = [
         Class::Vectors,
         Class::Worked,
         Class::Limits,
@@ -39,7 +38,6 @@ impl Class {
         Class::Changes,
         Class::Fields,
         Class::Realistic,
-        Class::Roots,
         Class::Extremes,
         Class::Sound,
         Class::Mutated,
@@ -61,7 +59,6 @@ impl Class {
             Class::Changes => "changed bytes",
             Class::Fields => "changed fields",
             Class::Realistic => "realistic",
-            Class::Roots => "root elements",
             Class::Extremes => "extremes",
             Class::Sound => "seeded readable",
             Class::Mutated => "seeded mutated",

@@ -26,8 +26,6 @@ mod part;
 pub mod queries;
 pub mod random;
 mod realistic;
-mod root_counts;
-mod roots;
 pub mod run;
 pub mod sessions;
 pub mod shape;

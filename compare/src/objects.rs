@@ -11,14 +11,10 @@ pub const MOST_CHARACTERS: usize = 32;
 pub const GREATEST_NUMBER: u16 = 4_095;
 
 /// Types of device elements. The one of type device, the root element, stands
-/// for the whole device; a sound pool has exactly one.
+/// for the whole device; no pool is sound without it.
 pub const DEVICE_TYPE: u8 = 1;
 pub const FUNCTION_TYPE: u8 = 2;
 pub const SECTION_TYPE: u8 = 4;
-/// All types but device.
-pub const OTHER_TYPES: [u8; 6] = [2, 3, 4, 5, 6, 7];
-/// Where a device element has its type, counted from its start.
-pub const TYPE_AT: usize = 5;
 
 /// A record. Fields that its kind does not have are not written.
 #[derive(Clone)]
@@ -179,9 +175,4 @@ pub fn named(objects: &[Object], id: u16) -> Option<usize> {
         return None;
     }
     objects.iter().position(|object| object.id == id)
-}
-
-/// How many records are device elements of type device.
-pub fn root_count(objects: &[Object]) -> usize {
-    objects.iter().filter(|it| it.is_root_element()).count()
 }

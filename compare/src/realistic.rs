@@ -112,12 +112,13 @@ impl Maker {
 #[cfg(test)]
 mod tests {
     use super::*;
-    use crate::objects::root_count;
 
     #[test]
     fn a_pool_has_one_element_of_type_device() {
         for size in (1_000..66_000).step_by(1_000) {
-            assert_eq!(root_count(&realistic(size)), 1, "{size} bytes");
+            let objects = realistic(size);
+            let roots = objects.iter().filter(|it| it.is_root_element());
+            assert_eq!(roots.count(), 1, "{size} bytes");
         }
     }
 }

@@ -117,9 +117,6 @@ impl Run {
     fn compare(&mut self, input: &Input) {
         let verdict = Verdict::of(&input.pool);
         self.tallies.of(input.class).count_input(&verdict);
-        if let Err(what) = self.tallies.count_roots(&input.pool, &verdict) {
-            self.note(input, &what);
-        }
         if is_counted(input, &verdict) {
             self.census.count(&input.objects, &verdict.faults);
         }

@@ -2,7 +2,6 @@
 
 use crate::input::Class;
 use crate::library::FAULT_WORDS;
-use crate::root_counts::RootCounts;
 use crate::subjects::Subjects;
 use crate::verdict::Verdict;
 
@@ -64,8 +63,6 @@ pub struct Tallies {
     by_class: [Tally; Class::ALL.len()],
     /// Faults that were compared in a buffer.
     faults: Subjects,
-    /// Pools by their elements of type device.
-    roots: RootCounts,
     /// Checks of pools with more faults than the buffer had room for, by the
     /// words that were left over.
     cut_buffers: [u64; FAULT_WORDS],
@@ -76,7 +73,6 @@ impl Tallies {
         Tallies {
             by_class: Default::default(),
             faults: Subjects::of_all("faults in buffers"),
-            roots: RootCounts::new(),
             cut_buffers: [0; FAULT_WORDS],
         }
     }
@@ -96,14 +92,6 @@ impl Tallies {
     pub fn count_faults(&mut self, verdict: &Verdict, room: usize) -> Result<(), String> {
         let mut written = verdict.faults.iter().take(room);
         written.try_for_each(|fault| self.faults.count(fault, &verdict.records))
-    }
-
-    /// Counts a pool by its elements of type device.
-    pub fn count_roots(&mut self, pool: &[u8], verdict: &Verdict) -> Result<(), String> {
-        if verdict.is_refused() {
-            return Ok(());
-        }
-        self.roots.count(pool, verdict)
     }
 
     fn total(&self) -> Tally {
@@ -130,7 +118,6 @@ impl Tallies {
         }
         self.total().print("all");
         self.faults.print();
-        self.roots.print();
         print!("buffers too short, by words left over");
         for (words, count) in self.cut_buffers.iter().enumerate() {
             print!("; {words}: {count}");
@@ -138,7 +125,7 @@ impl Tallies {
         println!();
     }
 
-    /// Answers, faults, pools and buffers that should have occurred and did not.
+    /// Answers, faults and buffers that should have occurred and did not.
     pub fn unseen(&self) -> Vec<String> {
         let counts = NUMBERS.iter().copied().zip(self.total().numbers);
         let numbers = counts
@@ -148,8 +135,6 @@ impl Tallies {
         let cut = cut
             .filter(|&(_, &count)| count == 0)
             .map(|(words, _)| format!("a buffer that ends after {words} words of a fault"));
-        let faults = self.faults.unseen().into_iter();
-        let roots = self.roots.unseen();
-        numbers.chain(faults).chain(roots).chain(cut).collect()
+        numbers.chain(self.faults.unseen()).chain(cut).collect()
     }
 }

@@ -7,7 +7,7 @@ use compare::accepted;
 use compare::breaches::{breach_in_way, WAYS};
 use compare::fixed::{pool_p, pool_q};
 use compare::library::FAULT_WORDS;
-use compare::objects::{pool_of, DEVICE_TYPE, GREATEST_SCALE, LEAST_SCALE, TYPE_AT};
+use compare::objects::{pool_of, GREATEST_SCALE, LEAST_SCALE};
 use compare::random::Random;
 use compare::vectors;
 use std::io;
@@ -190,7 +190,7 @@ fn displayed() -> Vec<Vec<u8>> {
 }
 
 fn pools() -> io::Result<Vec<Vec<u8>>> {
-    let mut pools = vec![pool_p(), pool_q(), two_roots()];
+    let mut pools = vec![pool_p(), pool_q()];
     pools.extend(vectors::load()?.into_iter().map(|vector| vector.pool));
     for way in 0..WAYS {
         let random = &mut Random::for_item(SEED, way as u64);
@@ -207,13 +207,6 @@ fn pools() -> io::Result<Vec<Vec<u8>>> {
     }
     pools.retain(|pool| pool.len() <= LONGEST_POOL);
     Ok(pools)
-}
-
-/// Q, with both of its elements of type device.
-fn two_roots() -> Vec<u8> {
-    let mut pool = pool_q();
-    pool[pool_p().len() + TYPE_AT] = DEVICE_TYPE;
-    pool
 }
 
 fn input(group: Group, arguments: &[u8], bytes: &[u8]) -> Vec<u8> {

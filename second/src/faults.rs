@@ -29,8 +29,7 @@ impl Fault {
     pub const REPEATED_ELEMENT: u8 = 8;
     pub const ENDLESS_CHAIN: u8 = 9;
     pub const NO_DEVICE: u8 = 10;
-    /// Reported once for the pool, whether it has none or several.
-    pub const NOT_ONE_DEVICE_ELEMENT: u8 = 11;
+    pub const NO_DEVICE_ELEMENT: u8 = 11;
     pub const REPEATED_DDI: u8 = 12;
 }
 

@@ -9,7 +9,6 @@ use crate::texts::Text;
 use std::cell::RefCell;
 use std::ops::RangeInclusive;
 
-/// The type of the one element that stands for the device itself.
 const DEVICE_TYPE: u8 = 1;
 const ELEMENT_TYPES: RangeInclusive<u8> = 1..=7;
 pub(crate) const MAX_ELEMENT_NUMBER: u16 = 4_095;
@@ -112,21 +111,17 @@ struct Checker<'a> {
 
 impl<'a> Checker<'a> {
     fn whole_pool(&mut self) {
+        let pool = self.pool;
         let records = self.names.records;
-        let no_device = !records.iter().any(|record| record.kind == Kind::Dvc);
-        let not_one = self.device_elements() != 1;
+        let is_device = |record: &Record| record.kind == Kind::Dvc;
+        let is_device_element = |record: &Record| {
+            record.kind == Kind::Det && Element::type_of(record.bytes(pool)) == DEVICE_TYPE
+        };
+        let no_device = !records.iter().any(is_device);
+        let no_element = !records.iter().any(is_device_element);
         self.faults.report_if(no_device, Fault::NO_DEVICE, 1);
         self.faults
-            .report_if(not_one, Fault::NOT_ONE_DEVICE_ELEMENT, 1);
-    }
-
-    /// How many elements have the type device. Nothing but the type byte
-    /// matters: an element with faults counts as well.
-    fn device_elements(&self) -> usize {
-        let is_device_element = |record: &&Record| {
-            record.kind == Kind::Det && Element::type_of(record.bytes(self.pool)) == DEVICE_TYPE
-        };
-        self.names.records.iter().filter(is_device_element).count()
+            .report_if(no_element, Fault::NO_DEVICE_ELEMENT, 1);
     }
 
     fn records(&mut self) {

@@ -365,31 +365,8 @@ static void first_faults(void)
     pool[30] = 0xFF;
     send_faulty(pool, NAMED, text);
     memcpy(pool, named, NAMED);
-    pool[SECOND_TYPE] = 0;
+    pool[97] = 0;
     send_faulty(pool, NAMED, type);
-}
-
-/* Two elements of type 1 are one fault, of the whole pool. With the second of another type the pool is accepted. */
-static void second_of_type_1(void)
-{
-    static const uint16_t fault[LACHSBRILLE_FAULT_WORDS] = {0, 11, 1, LACHSBRILLE_NO_ID, LACHSBRILLE_NO_ID};
-    lachsbrille_record table[5];
-    uint16_t faults[LACHSBRILLE_FAULT_WORDS];
-    uint8_t pool[NAMED];
-    size_t value = 9;
-
-    memcpy(pool, named, NAMED);
-    pool[SECOND_TYPE] = 1;
-    memset(table, LEFT, sizeof table);
-    memset(faults, LEFT, sizeof faults);
-    EQUAL(lachsbrille_check(pool, NAMED, table, 5, faults, LACHSBRILLE_FAULT_WORDS, &value), LACHSBRILLE_OK);
-    EQUAL(value, 1);
-    SAME(faults, fault, sizeof fault);
-    send_faulty(pool, NAMED, fault);
-
-    pool[SECOND_TYPE] = 2;
-    EQUAL(lachsbrille_check(pool, NAMED, table, 5, faults, LACHSBRILLE_FAULT_WORDS, &value), LACHSBRILLE_OK);
-    EQUAL(value, 0);
 }
 
 static void exchange(void)
@@ -556,7 +533,6 @@ int main(void)
     fields_past_the_end();
     sessions();
     first_faults();
-    second_of_type_1();
     exchange();
     logs();
     layout_bits();

@@ -17,8 +17,8 @@ static const uint8_t q[Q] = {
     'D', 'P', 'D', 3, 0, 0x8D, 0, 0x01, 0x09, 0, 0xFF, 0xFF
 };
 
-/* The records are not in the order of their kinds' numbers. The byte at SECOND_TYPE is the type of the second element. */
-enum { NAMED = 105, SECOND_TYPE = 97 };
+/* The records are not in the order of their kinds' numbers. */
+enum { NAMED = 105 };
 
 static const uint8_t named[NAMED] = {
     'D', 'V', 'P', 9, 2, 0, 0, 0, 0, 0, 0, 0x80, 0x3F, 0, 2, 'k', 'g',

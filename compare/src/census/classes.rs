@@ -163,36 +163,10 @@ impl Census {
     }
 
     fn add_whole_pool(&mut self) {
-        self.add(10, "no DVC", |_| true);
         let has_element = |it: &Sighting| it.objects.iter().any(|it| it.kind == Kind::Det);
+        self.add(10, "no DVC", |_| true);
         self.add(11, "no DET", move |it| !has_element(it));
-        self.add(11, "DETs, none of type 1", move |it| {
-            has_element(it) && it.roots().is_empty()
-        });
-        self.add(11, "two of type 1", |it| it.roots().len() == 2);
-        self.add(11, "three or more", |it| it.roots().len() > 2);
-        self.add(11, "none, no DVC", |it| {
-            it.is_after(10) && it.roots().is_empty()
-        });
-        self.add_several();
-    }
-
-    /// Pools with several elements of type device.
-    fn add_several(&mut self) {
-        let several = |it: &Sighting| it.roots().len() > 1;
-        self.add(11, "several, no DVC", move |it| {
-            it.is_after(10) && several(it)
-        });
-        self.add(11, "the second in the last record", |it| {
-            it.roots().get(1) == Some(&(it.objects.len() - 1))
-        });
-        self.add(11, "two with one ID", |it| it.has_roots_of_one_id());
-        for rule in [1, 2, 4, 5, 6, 7, 8, 9, 12] {
-            let name = format!("several, with rule {rule}");
-            self.add(11, name, move |it| {
-                several(it) && it.has_root_breaching(rule)
-            });
-        }
+        self.add(11, "no DET of type 1", has_element);
     }
 
     fn add_lists(&mut self) {

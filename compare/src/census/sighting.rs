@@ -2,7 +2,6 @@
 
 use crate::objects::{named, Object};
 use second::{Fault, Kind};
-use std::collections::HashSet;
 use std::str;
 
 /// A chain or ring of at least this many steps is a long one.
@@ -22,9 +21,8 @@ pub struct Sighting<'a> {
     pub fault: Fault,
     /// Index of the record; also 0 if the fault is the whole pool's.
     index: usize,
-    /// The faults before this one and those after it.
+    /// The faults before this one.
     before: &'a [Fault],
-    after: &'a [Fault],
     pub chain: Chain,
     /// Under rule 12, the place of the first entry with the same DDI and of
     /// the one at fault.
@@ -61,7 +59,6 @@ impl<'a> Scene<'a> {
             fault,
             index,
             before: &self.faults[..position],
-            after: &self.faults[position + 1..],
             chain: match fault.rule {
                 9 => self.chain(index),
                 _ => Chain::default(),
@@ -178,32 +175,6 @@ impl Sighting<'_> {
             .rev()
             .take_while(|it| it.record == record);
         others.any(|it| it.rule == rule && it.item > item)
-    }
-
-    /// Whether a fault before this one is of this rule.
-    pub fn is_after(&self, rule: u8) -> bool {
-        self.before.iter().any(|it| it.rule == rule)
-    }
-
-    /// The indices of the elements of type device.
-    pub fn roots(&self) -> Vec<usize> {
-        let indices = 0..self.objects.len();
-        let is_root = |index: &usize| self.objects[*index].is_root_element();
-        indices.filter(is_root).collect()
-    }
-
-    /// Whether an element of type device breaches this rule.
-    pub fn has_root_breaching(&self, rule: u8) -> bool {
-        let roots = self.roots();
-        let mut breaches = self.after.iter().filter(|it| it.rule == rule);
-        breaches.any(|it| roots.contains(&usize::from(it.record - 1)))
-    }
-
-    /// Whether two elements of type device have one ID.
-    pub fn has_roots_of_one_id(&self) -> bool {
-        let mut ids = HashSet::new();
-        let mut roots = self.objects.iter().filter(|it| it.is_root_element());
-        !roots.all(|it| ids.insert(it.id))
     }
 
     pub fn entry_kind(&self, place: usize) -> Option<Kind> {

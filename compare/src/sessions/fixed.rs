@@ -8,7 +8,6 @@ use crate::library::ENTRY_WORDS;
 use crate::objects::{pool_of, Object};
 use crate::random::Random;
 use crate::realistic::realistic;
-use crate::roots;
 use crate::shape::SHORTEST_RECORD;
 use second::{Kind, MAX_POOL_BYTES};
 
@@ -46,44 +45,32 @@ pub fn lists(long: bool) -> Vec<Fixed> {
     if long {
         lists.push(sending("65,535 bytes in single bytes", &longest, 1));
     }
-    lists.extend(root_elements());
     lists.extend(each_breach());
     lists
 }
 
-/// Pools with a breach: every kind of record is at fault in the first place
-/// several times.
+/// Pools with a breach, in one piece: every kind of record is at fault in the
+/// first place several times.
 fn each_breach() -> impl Iterator<Item = Fixed> {
     (0..BREACHES_EACH * WAYS).filter_map(|index| {
         let random = &mut Random::for_item(BREACHED, index as u64);
         let mut objects = accepted::objects(random);
         breach_in_way(index % WAYS, random, &mut objects);
-        let list = in_one_piece(format!("breach {index}"), &objects, 24);
-        (list.area <= MAX_POOL_BYTES).then_some(list)
-    })
-}
-
-/// Pools with none, one and several elements of type device.
-fn root_elements() -> impl Iterator<Item = Fixed> {
-    roots::pools().into_iter().map(|pool| {
-        let number = if pool.breaches.is_empty() { 0 } else { 24 };
-        in_one_piece(pool.name, &pool.objects, number)
-    })
-}
-
-/// Sends the pool in one piece and activates it, which gives this number.
-fn in_one_piece(name: String, objects: &[Object], number: u32) -> Fixed {
-    let pool = pool_of(objects);
-    Fixed {
-        name,
-        area: pool.len(),
-        calls: vec![
-            Call::Offer(pool.len()),
+        let pool = pool_of(&objects);
+        let length = pool.len();
+        let calls = vec![
+            Call::Offer(length),
             Call::Transfer(pool),
             Call::Activate(ENTRY_WORDS * objects.len()),
-        ],
-        last: vec![0, 0, number],
-    }
+        ];
+        let list = Fixed {
+            name: format!("breach {index}"),
+            area: length,
+            calls,
+            last: vec![0, 0, 24],
+        };
+        (length <= MAX_POOL_BYTES).then_some(list)
+    })
 }
 
 /// The records of a sound pool of the greatest length.

@@ -4,7 +4,6 @@ use super::call::Call;
 use super::client::Sides;
 use super::library::{Step, Value};
 use crate::library::ENTRY_WORDS;
-use crate::root_counts::roots;
 use crate::shape::SHORTEST_RECORD;
 use crate::subjects::Subjects;
 use second::{Fault, Record, MAX_POOL_BYTES};
@@ -71,8 +70,7 @@ const ACTIVATE: &[&str] = &[
     RULES[8],
     RULES[9],
     RULES[10],
-    "24 rule 11 with none",
-    "24 rule 11 with several",
+    RULES[11],
     RULES[12],
 ];
 /// First faults by their rules, which are numbered from 1.
@@ -274,9 +272,6 @@ fn branch(value: &Value, call: &Call, sides: &Sides, step: &Step) -> &'static st
         (7, Call::Activate(words)) if *words < ENTRY_WORDS => "7 with no entry",
         (7, Call::Activate(_)) => "7 with some",
         (23, Call::Activate(_)) if value.received == 0 => "23 with nothing there",
-        (24, Call::Activate(_)) if step.rule == 11 => {
-            without_one_root(&sides.staging()[..value.announced as usize])
-        }
         (24, Call::Activate(_)) => RULES.get(usize::from(step.rule)).unwrap_or(&RULES[0]),
         (26, Call::Activate(_)) if value.stage == 0 => "26 by the kept pool",
         (26, Call::Activate(_)) => short_area(value.announced as usize, staging, kept),
@@ -298,15 +293,6 @@ fn records(pool: &[u8]) -> Vec<Record> {
     let count = second::read_pool(pool, &mut table).unwrap_or(0);
     table.truncate(count);
     table
-}
-
-/// How many elements of type device the pool has instead of one.
-fn without_one_root(pool: &[u8]) -> &'static str {
-    match roots(pool, &records(pool)).len() {
-        0 => "24 rule 11 with none",
-        1 => "24 rule 11 with one",
-        _ => "24 rule 11 with several",
-    }
 }
 
 fn short_area(size: usize, staging: usize, kept: usize) -> &'static str {

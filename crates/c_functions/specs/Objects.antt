@@ -50,7 +50,7 @@ presentation_says = record { Learnt = _; exact = λ w. refl }
 
 -- for all arguments: the release, and the fields of a record from any start
 pub record ObjectsRead : Type 0 where
-  pub version : (κs : Lfts 0) (r : ℕ) → version_says.Learnt κs tt r tt → r ≡ 20100
+  pub version : (κs : Lfts 0) (r : ℕ) → version_says.Learnt κs tt r tt → r ≡ 20000
   pub device : (κs : Lfts 1) (p : Bor (List ℕ)) (start : ℕ) (r : Device) → device_says.Learnt κs (p, (start, tt)) r (p, (start, tt)) → r ≡ device_of p.now start
   pub element : (κs : Lfts 1) (p : Bor (List ℕ)) (start : ℕ) (r : DeviceElement) → element_says.Learnt κs (p, (start, tt)) r (p, (start, tt)) → r ≡ element_of p.now start
   pub entry : (κs : Lfts 1) (p : Bor (List ℕ)) (start n : ℕ) (r : ℕ) → entry_says.Learnt κs (p, (start, (n, tt))) r (p, (start, (n, tt))) → r ≡ entry_of p.now start n

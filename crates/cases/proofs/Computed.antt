@@ -11,7 +11,7 @@ use Rattle.text.specs.Characters.{characters_in}
 use Rattle.text.specs.Examined.{sound_text}
 use Rattle.faults.specs.Rows.{up_to, faults_of_rows, in_records}
 use Rattle.naming.specs.Naming.{first_of, named, parent_of, climb, tag_of, among}
-use Rattle.rules.specs.Table.{repeats, howMany, unsound, doubled, kind_rows, breaches_in, breaches_of}
+use Rattle.rules.specs.Table.{repeats, unsound, doubled, kind_rows, breaches_in, breaches_of}
 use Rattle.faults.specs.Faults.{written}
 use Rattle.checker.specs.Checking.{check_of, reported, faults_after}
 use Rattle.working_table.specs.Table.{records_after}
@@ -22,8 +22,7 @@ use Rattle.judging.specs.Judging.{element_for, entry_for, error_of_object, error
 use Rattle.cases.specs.Starred.{cases, Hold}
 use Rattle.cases.specs.Worked.{Worked}
 use Rattle.cases.specs.Objects.{Objects}
-use Rattle.cases.specs.Machines.{Machines}
 
-pub computed : Hold cases × Worked × Objects × Machines
-unfolding le_of number_in signed_of mark layout mark_of field_end extent_of field_at id_of parent_id_of device_of element_of entry_of process_data_of property_of presentation_of scan_from scan_of read_of width characters_in sound_text up_to faults_of_rows in_records first_of named parent_of climb tag_of among repeats howMany unsound doubled kind_rows breaches_in breaches_of written check_of reported faults_after records_after noted book_of said_of acceptance messages.read_of element_for entry_for error_of_object error_of judge_number judge_error
-computed = ((refl, (refl, (refl, (refl, (refl, (refl, (refl, (refl, (refl, (refl, (refl, (refl, (refl, (refl, (refl, (refl, tt)))))))))))))))), record { told = refl; kept = refl; still = refl; gone = refl }, record { element = refl; whole_pool = refl; own_parent = refl; device = refl; one = refl; none = refl; table = refl; entry = refl; faults = refl }, record { two = refl; one = refl; same_id = refl; same_number = refl; no_device = refl })
+pub computed : Hold cases × Worked × Objects
+unfolding le_of number_in signed_of mark layout mark_of field_end extent_of field_at id_of parent_id_of device_of element_of entry_of process_data_of property_of presentation_of scan_from scan_of read_of width characters_in sound_text up_to faults_of_rows in_records first_of named parent_of climb tag_of among repeats unsound doubled kind_rows breaches_in breaches_of written check_of reported faults_after records_after noted book_of said_of acceptance messages.read_of element_for entry_for error_of_object error_of judge_number judge_error
+computed = ((refl, (refl, (refl, (refl, (refl, (refl, (refl, (refl, (refl, (refl, (refl, (refl, (refl, (refl, (refl, (refl, tt)))))))))))))))), record { told = refl; kept = refl; still = refl; gone = refl }, record { element = refl; whole_pool = refl; own_parent = refl; device = refl; one = refl; none = refl; table = refl; entry = refl; faults = refl })

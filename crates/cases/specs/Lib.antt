@@ -3,5 +3,4 @@ pub mod Pools
 pub mod Starred
 pub mod Worked
 pub mod Objects
-pub mod Machines
 pub mod Listings

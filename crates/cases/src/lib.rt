@@ -2,7 +2,6 @@
 ghost use Rattle.cases.specs.Starred.{cases, Hold};
 ghost use Rattle.cases.specs.Worked.{Worked};
 ghost use Rattle.cases.specs.Objects.{Objects};
-ghost use Rattle.cases.specs.Machines.{Machines};
 ghost use Rattle.cases.specs.Listings.{Listings};
 
 pub fn starred_cases_hold()
@@ -15,10 +14,6 @@ pub fn worked_session_holds()
 
 pub fn worked_objects_hold()
     ensures { Objects }
-{}
-
-pub fn worked_machines_hold()
-    ensures { Machines }
 {}
 
 pub fn worked_listings_hold()

@@ -11,7 +11,7 @@ use Rattle.records.specs.declared.Kind.TheVariants.{Dvp}
 use Rattle.views.specs.Fields.{presentation_of}
 use Rattle.pool.specs.Reading.{Entry}
 use Rattle.naming.specs.Records.{start_at}
-use Rattle.rules.specs.Breach.{Is, OutOfRange, structure, localization, closing, type, number, property_bit, both, trigger_bit, scale, decimals, Breach, device_id, other_id, same_id, second_device, unsound_text, out_of_range, names_none, wrong_kind, same_number, endless, no_device, not-one-machine, same_ddi}
+use Rattle.rules.specs.Breach.{Is, OutOfRange, structure, localization, closing, type, number, property_bit, both, trigger_bit, scale, decimals, Breach, device_id, other_id, same_id, second_device, unsound_text, out_of_range, names_none, wrong_kind, same_number, endless, no_device, no_device_element, same_ddi}
 use Rattle.claims.specs.Displayed.{FiftyIsABreach}
 
 module _ (p : List ℕ) (es : List Entry) (i : ℕ) where
@@ -28,7 +28,7 @@ module _ (p : List ℕ) (es : List Entry) (i : ℕ) where
   fifth (same_number a b c d) x y = absurd (omega arith)
   fifth (endless a b) x y = absurd (omega arith)
   fifth (no_device a) x y = absurd (omega arith)
-  fifth (not-one-machine a) x y = absurd (omega arith)
+  fifth (no_device_element a) x y = absurd (omega arith)
   fifth (same_ddi a b c d e) x y = absurd (omega arith)
 
   abbrev Outside : Type 0

@@ -4,6 +4,5 @@ pub mod Sorting
 pub mod Filled
 pub mod Verdict
 pub mod Checking
-pub mod Machine
 pub mod Parts
 pub mod Displayed

@@ -1,6 +1,5 @@
 -- What the contracts of `claims` cite.
 pub mod Reads
 pub mod Checks
-pub mod Machine
 pub mod Parts
 pub mod Displayed

@@ -1,9 +1,8 @@
-// The claims about reading, checking, rule 11, the fields of a record, and the displayed value's refusal by the rule table. The functions
-// do nothing: their contracts are the claims, so that the check's report names them.
+// The claims about reading, checking, the fields of a record, and the displayed value's refusal by the rule table. The functions do
+// nothing: their contracts are the claims, so that the check's report names them.
 ghost use Rattle.std.specs.Prelude.{List, ℕ};
 ghost use Rattle.claims.specs.Reads.{Reads};
 ghost use Rattle.claims.specs.Checks.{Checks};
-ghost use Rattle.claims.specs.Machine.{Eleven};
 ghost use Rattle.claims.specs.Parts.{FieldsAreParts};
 ghost use Rattle.claims.specs.Displayed.{FiftyIsABreach};
 
@@ -13,11 +12,6 @@ pub fn reading_is_division()
 
 pub fn checking_lists_breaches()
     ensures { Checks }
-{}
-
-// Rule 11 is broken exactly if the number of device elements of type 1 is not one, and an accepted pool has exactly one.
-pub fn accepted_has_one_machine()
-    ensures { Eleven }
 {}
 
 pub fn fields_are_parts()

@@ -1,10 +1,12 @@
-// The rules about the pool as a whole: whether it has a device, and exactly one device element of type 1.
-ghost use Rattle.std.specs.Prelude.{◌≡◌, cond, ◌+◌, ◌≤◌, ◌<◌, eqb, length};
+// The rules about the pool as a whole: whether it has a device, and a device element of type 1.
+ghost use Rattle.std.specs.Prelude.{◌≡◌, cond, ◌≤◌, eqb, length};
+ghost use Rattle.records.specs.Layout.{mark_code, mark_of, three};
+ghost use Rattle.views.specs.Fields.{element_of};
 ghost use Rattle.faults.specs.Emission.{Puts};
 ghost use Rattle.pool.specs.Walk.{entries_of, Divided};
 ghost use Rattle.naming.specs.Records.{kind_at};
 ghost use Rattle.naming.specs.Naming.{first_of, type_key};
-ghost use Rattle.rules.specs.Table.{howMany, pool_rows};
+ghost use Rattle.rules.specs.Table.{pool_rows};
 
 // The number of the first device, 0 for none.
 pub fn first_device(p: &[u8], starts: &[u16]) -> u16
@@ -22,31 +24,30 @@ pub fn first_device(p: &[u8], starts: &[u16]) -> u16
     0
 }
 
-// 1 if record i is a device element of type 1, else 0. The type is the byte behind the mark and the ID.
-fn machine_at(p: &[u8], starts: &[u16], i: usize) -> usize
-    requires { Divided p.now starts.now × (i + 1 < length starts.now) }
-    ensures { result ≡ cond (eqb (type_key p.now (entries_of p.now starts.now) i) 1) 1 0 }
+// Whether the record that starts at a place is a device element of type 1.
+fn is_machine(p: &[u8], at: u16) -> bool
+    ensures { result ≡ eqb (cond (eqb (mark_code (mark_of (three p.now at))) 2) (element_of p.now at).element_type 256) 1 }
 {
-    let element_type = p[starts[i] as usize + 5];
-    if (element_type == 1) & (naming::record_kind(p, starts, i) == 2) {
-        return 1;
+    if records::view::kind(p, at) == 2 {
+        return views::device_element(p, at).element_type == 1;
     }
-    0
+    false
 }
 
-// How many device elements of type 1 there are.
-fn count_machines(p: &[u8], starts: &[u16]) -> usize
+// Whether no record is a device element of type 1.
+fn lacks_machine(p: &[u8], starts: &[u16]) -> bool
     requires { Divided p.now starts.now }
-    ensures { result ≡ howMany (type_key p.now (entries_of p.now starts.now)) 1 (length (entries_of p.now starts.now)) }
+    ensures { result ≡ eqb (first_of (type_key p.now (entries_of p.now starts.now)) 1 (length (entries_of p.now starts.now))) 0 }
 {
     let count = starts.len() - 1;
-    let mut machines: usize = 0;
     let mut i: usize = 0;
     while i < count {
-        machines += machine_at(p, starts, i);
+        if is_machine(p, starts[i]) {
+            return false;
+        }
         i += 1;
     }
-    machines
+    true
 }
 
 // Rules 10 and 11, of the whole pool.
@@ -55,5 +56,5 @@ pub fn put_pool(p: &[u8], starts: &[u16], device: u16, faults: &mut [u16]) -> us
     ensures { Puts 0 (pool_rows p.now (entries_of p.now starts.now)) faults.old 0 faults.new result × (result ≤ 2) }
 {
     let n = faults::put_if(device == 0, faults, 0, 0, 10, 1);
-    faults::put_if(count_machines(p, starts) != 1, faults, n, 0, 11, 1)
+    faults::put_if(lacks_machine(p, starts), faults, n, 0, 11, 1)
 }

@@ -1,7 +1,8 @@
 -- A pool that is accepted has been read, and it has a device. Assumes nothing.
 use mathlib.Core.Path.{◌≡◌, refl}
 use mathlib.Core.Bool.{false, cond}
-use mathlib.Core.List.{List}
+use mathlib.Core.List.Memᴰ
+use mathlib.Core.List.{List, [], ◌∷◌, Memᴰ}
 use Prim.Native.Nat.{ℕ, zero, suc}
 use native.Mathlib.Decide.{ℕ_discrete}
 use native.Mathlib.Omega.{arith}
@@ -11,14 +12,13 @@ use lib.ListN.{length}
 use Rattle.records.specs.declared.Kind.TheVariants.{Dvc}
 use Rattle.pool.specs.Answer.{Answer, answer}
 use Rattle.pool.specs.Reading.{scan_of, entries_in, read_of}
-use Rattle.faults.specs.Faults.{fault}
+use Rattle.faults.specs.Faults.{Fault, fault}
 use Rattle.naming.specs.Records.{kind_at}
 use Rattle.naming.specs.Naming.{first_of}
 use Rattle.naming.proofs.First.{first-none}
 use Rattle.rules.specs.Breach.{no_device, Is}
 use Rattle.rules.specs.Table.{breaches_in, breaches_of}
 use Rattle.rules.proofs.Listing.{breaches-listed}
-pub use Rattle.rules.proofs.Listing.{some-member}
 use Rattle.checker.specs.Checking.{check_of, count_of}
 use Rattle.queries.specs.Queries.{refusal_in, acceptance}
 
@@ -31,6 +31,11 @@ refusal-faults a e h = rw (e, ne_eqb a.value 0 h)
 
 pub refusal-none : (a : Answer) → a.number ≡ 0 → a.value ≡ 0 → 0 ≡ refusal_in a
 refusal-none a e f = rw (e, f)
+
+-- a list with a member is not empty
+pub some-member : (f : Fault) (l : List Fault) → Memᴰ f l → length l ≡ 0 → ⊥
+some-member f [] m e = Memᴰ.not-nil m
+some-member f (x ∷ l) m e = omega arith
 
 -- a refusal's number is not 0
 unread : (faults n v : ℕ) → refusal_in (cond (eqb (suc n) 0) (answer 0 faults) (answer (suc n) v)) ≡ 0 → ⊥

@@ -23,14 +23,13 @@ use Rattle.rules.specs.Breach.{Is, Role, presentation}
 use Rattle.rules.specs.Breach.{Text, device_designator, device_version, device_serial, element_designator, data_designator, property_designator, unit}
 use Rattle.rules.specs.Breach.{OutOfRange, structure, localization, closing, type, number, property_bit, both, trigger_bit, scale, decimals}
 use Rattle.rules.specs.Breach.{Refers, to_parent, to_entry, data_presentation, property_presentation}
-use Rattle.rules.specs.Breach.{Endless, EntryDdi, OnlyMachine}
+use Rattle.rules.specs.Breach.{Endless, EntryDdi}
 use Rattle.rules.specs.Breach.{Breach, device_id, other_id, same_id, second_device, unsound_text, out_of_range, names_none, wrong_kind}
-use Rattle.rules.specs.Breach.{same_number, endless, no_device, not-one-machine, same_ddi}
-use Rattle.rules.specs.Table.{howMany, bad_label, unsound, data_rows, property_rows, presented_rows, element_key, entry_named, kind_rows, record_rows, pool_rows, rows_of}
+use Rattle.rules.specs.Breach.{same_number, endless, no_device, no_device_element, same_ddi}
+use Rattle.rules.specs.Table.{bad_label, unsound, data_rows, property_rows, presented_rows, element_key, entry_named, kind_rows, record_rows, pool_rows, rows_of}
 use Rattle.rules.proofs.Truth.{to_both, to-left, to-right, to-denied, to-differ}
 use Rattle.rules.proofs.Names.{wrongly, none_named, names-wrong}
-use Rattle.rules.proofs.Repeats.{earlier-repeats, element-key}
-use Rattle.rules.proofs.Counting.{counted-machine}
+use Rattle.rules.proofs.Repeats.{earlier-repeats, element-key, key-type}
 use Rattle.rules.proofs.Chain.{endless-climbs}
 use Rattle.rules.proofs.Doubles.{earlier-doubled, ddi-tag}
 use Rattle.rules.proofs.Parts.{own_of, rows_as, as-kind}
@@ -219,12 +218,11 @@ module _ (p : List ℕ) (es : List Entry) where
       (eq-eqb (first_of (kind_at es) 1 (length es)) 0
       (to_none (kind_at es) 1 (length es) (λ (j : ℕ) (l : j < length es) (e : kind_at es j ≡ 1). n j (record { there = l; kind = e }))))
 
-  elements-hit : ((i : ℕ) → OnlyMachine p es i → ⊥) → Hit (pool_rows p es) 11 1
-  elements-hit n =
-      next
-      (at_one
-      (to-differ (howMany (type_key p es) 1 (length es)) 1
-      (λ (e : howMany (type_key p es) 1 (length es) ≡ 1). let s = counted-machine p es e in n s.0 s.1)))
+  elements-hit : ((i : ℕ) → Is es Det i → (element_of p (start_at es i)).element_type ≡ 1 → ⊥) → Hit (pool_rows p es) 11 1
+  elements-hit n = next (at_one (eq-eqb (first_of (type_key p es) 1 (length es)) 0 (to_none (type_key p es) 1 (length es) none)))
+    where
+      none : (j : ℕ) → j < length es → type_key p es j ≡ 1 → ⊥
+      none j l e = let k = key-type p es j e in n j (record { there = l; kind = k.0 }) k.1
 
   of-pool : {u k : ℕ} → Hit (pool_rows p es) u k → Found (rows_of p es) (suc (length es)) (fault 0 u k)
   of-pool h = hit-found (rows_of p es) (suc (length es)) 0 (omega arith) h
@@ -244,5 +242,5 @@ breach-found {p} {es} (wrong_kind {i} {item} {x} {j} {r} h n f) = of-record p es
 breach-found {p} {es} (same_number {i} h l g e) = of-record p es (number-hit p es i h l g e)
 breach-found {p} {es} (endless {i} h e) = of-record p es (endless-hit p es i h e)
 breach-found {p} {es} (no_device n) = of-pool p es (devices-hit p es n)
-breach-found {p} {es} (not-one-machine n) = of-pool p es (elements-hit p es n)
+breach-found {p} {es} (no_device_element n) = of-pool p es (elements-hit p es n)
 breach-found {p} {es} (same_ddi {i} h b l c d) = of-record p es (ddi-hit p es i h b l c d)

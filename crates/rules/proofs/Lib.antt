@@ -2,7 +2,6 @@
 pub mod Truth
 pub mod Names
 pub mod Repeats
-pub mod Counting
 pub mod Chain
 pub mod Doubles
 pub mod Fields

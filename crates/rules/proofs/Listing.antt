@@ -1,9 +1,6 @@
 -- The breach list is in order and holds exactly the breaches. That each record has a kind is not needed. Assumes nothing.
-use mathlib.Core.Path.{◌≡◌}
-use mathlib.Core.List.Memᴰ
-use mathlib.Core.List.{List, [], ◌∷◌, Memᴰ}
+use mathlib.Core.List.{List, Memᴰ}
 use Prim.Native.Nat.{ℕ, suc}
-use native.Mathlib.Omega.{arith}
 use lib.ListN.{length}
 use Rattle.faults.specs.Faults.{Fault}
 use Rattle.faults.proofs.Order.{found, listed, ascending}
@@ -31,8 +28,3 @@ module _ (p : List ℕ) (es : List Entry) where
         ascending = ascending (rows_of p es) (suc (length es)) (ordered p es);
         exact = λ (f : Fault). (only-breaches f, every-breach f);
       }
-
--- a list with a member is not empty
-pub some-member : (f : Fault) (l : List Fault) → Memᴰ f l → length l ≡ 0 → ⊥
-some-member f [] m e = Memᴰ.not-nil m
-some-member f (x ∷ l) m e = omega arith

@@ -1,4 +1,4 @@
--- A record whose key an earlier one has: rules 2, 3 and 8; the keys of a device element. Assumes nothing.
+-- A record whose key an earlier one has: rules 2, 3 and 8; a key that no record has: rules 10 and 11. Assumes nothing.
 use mathlib.Core.Path.{◌≡◌, refl, sym, ap, ◌∙◌}
 use mathlib.Core.Bool.{true, not}
 use mathlib.Core.List.{List}

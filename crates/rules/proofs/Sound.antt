@@ -1,5 +1,5 @@
 -- What the rows find is a breach. Assumes nothing.
-use mathlib.Core.Path.{◌≡◌, refl, sym, subst}
+use mathlib.Core.Path.{◌≡◌, refl, sym, ◌∙◌, subst}
 use mathlib.Core.Bool.{Bool, true, not, ◌&&◌, ◌||◌}
 use mathlib.Core.List.Memᴰ
 use mathlib.Core.List.{List, [], ◌∷◌, ◌++◌, Memᴰ}
@@ -20,17 +20,16 @@ use Rattle.pool.specs.Reading.{Entry}
 use Rattle.naming.specs.Records.{start_at, id_at, kind_at}
 use Rattle.naming.specs.Naming.{first_of, type_key, named, parent_of, climb, tag_of}
 use Rattle.naming.proofs.First.{first-none}
-use Rattle.rules.specs.Breach.{Is, Role, presentation, OnlyMachine}
+use Rattle.rules.specs.Breach.{Is, Role, presentation}
 use Rattle.rules.specs.Breach.{Text, device_designator, device_version, device_serial, element_designator, data_designator, property_designator, unit}
 use Rattle.rules.specs.Breach.{OutOfRange, type, number, property_bit, both, trigger_bit, scale, decimals}
 use Rattle.rules.specs.Breach.{Refers, to_parent, to_entry, data_presentation, property_presentation}
 use Rattle.rules.specs.Breach.{Breach, device_id, other_id, same_id, second_device, unsound_text, out_of_range, names_none, wrong_kind}
-use Rattle.rules.specs.Breach.{same_number, endless, no_device, not-one-machine, same_ddi}
-use Rattle.rules.specs.Table.{repeats, howMany, bad_own, unsound, presented_rows, element_key, entry_named, record_rows, pool_rows, rows_of, doubled}
+use Rattle.rules.specs.Breach.{same_number, endless, no_device, no_device_element, same_ddi}
+use Rattle.rules.specs.Table.{repeats, bad_own, unsound, presented_rows, element_key, entry_named, record_rows, pool_rows, rows_of, doubled}
 use Rattle.rules.proofs.Truth.{both as parts, either, denied, differ}
 use Rattle.rules.proofs.Names.{wrongly, named_none, wrong-names}
-use Rattle.rules.proofs.Repeats.{repeats-earlier, element-key, key-element}
-use Rattle.rules.proofs.Counting.{machine-counts}
+use Rattle.rules.proofs.Repeats.{repeats-earlier, element-key, key-element, type-key}
 use Rattle.rules.proofs.Chain.{climbs-endless}
 use Rattle.rules.proofs.Doubles.{doubled-earlier, tag-ddi}
 use Rattle.rules.proofs.Parts.{own_of, rows_as, by_kind}
@@ -192,8 +191,10 @@ pool-right p es = one_right devices and one_right elements and nothing
         let f = eqb-true (first_of (kind_at es) 1 (length es)) 0 e in
         no_device (λ (i : ℕ) (h : Is es Dvc i). first-none (kind_at es) 1 (length es) f i h.there h.kind)
 
-    elements : not (eqb (howMany (type_key p es) 1 (length es)) 1) ≡ true → Breach p es 0 11 1
-    elements e = not-one-machine (λ (i : ℕ) (o : OnlyMachine p es i). differ (howMany (type_key p es) 1 (length es)) 1 e (machine-counts p es i o))
+    elements : eqb (first_of (type_key p es) 1 (length es)) 0 ≡ true → Breach p es 0 11 1
+    elements e =
+        let f = eqb-true (first_of (type_key p es) 1 (length es)) 0 e in
+        no_device_element (λ (i : ℕ) (h : Is es Det i) t. first-none (type_key p es) 1 (length es) f i h.there (type-key p es i h.kind ∙ t))
 
 rows_right : (p : List ℕ) (es : List Entry) (r : ℕ) → r < suc (length es) → AllRight p es r (rows_of p es r)
 rows_right p es zero l = pool-right p es

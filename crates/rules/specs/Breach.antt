@@ -89,12 +89,6 @@ pub data Above (p : List ℕ) (es : List Entry) : ℕ → ℕ → ℕ → Type 0
 abbrev pub Endless : List ℕ → List Entry → ℕ → Type 0
 Endless p es i = (n : ℕ) → (j : ℕ) × Above p es n i j
 
--- rule 11: record i is the only device element of type 1, the one that stands for the machine as a whole
-pub record OnlyMachine (p : List ℕ) (es : List Entry) (i : ℕ) : Type 0 where
-  pub element : Is es Det i
-  pub typed : (element_of p (start_at es i)).element_type ≡ 1
-  pub alone : (j : ℕ) → Is es Det j → (element_of p (start_at es j)).element_type ≡ 1 → j ≡ i
-
 -- rule 12: entry j of device element i names process data or a property of this DDI
 pub data EntryDdi (p : List ℕ) (es : List Entry) (i j : ℕ) : ℕ → Type 0 where
   data_ddi : {k : ℕ} → Names es (entry_of p (start_at es i) j) k → Is es Dpd k → EntryDdi p es i j (process_data_of p (start_at es k)).ddi
@@ -124,9 +118,8 @@ pub data Breach (p : List ℕ) (es : List Entry) : ℕ → ℕ → ℕ → Type 
   endless : {i : ℕ} → Is es Det i → Endless p es i → Breach p es (suc i) 9 1
   -- 10: no device
   no_device : ((i : ℕ) → Is es Dvc i → ⊥) → Breach p es 0 10 1
-  -- 11: the number of device elements of type 1 is not one: there is none, or there are two and more. The type alone decides, whatever
-  -- else is wrong with an element
-  not-one-machine : ((i : ℕ) → OnlyMachine p es i → ⊥) → Breach p es 0 11 1
+  -- 11: no device element of type 1
+  no_device_element : ((i : ℕ) → Is es Det i → (element_of p (start_at es i)).element_type ≡ 1 → ⊥) → Breach p es 0 11 1
   -- 12: an entry names process data or a property of the DDI that an earlier entry of the list names
   same_ddi : {i j k ddi : ℕ} → Is es Det i → k < (element_of p (start_at es i)).entries → j < k → EntryDdi p es i j ddi → EntryDdi p es i k ddi
       → Breach p es (suc i) 12 (2 + k)

@@ -20,11 +20,6 @@ pub use Rattle.naming.specs.Naming.{element_key}
 unfoldable pub repeats : (ℕ → ℕ) → ℕ → ℕ → ℕ → Bool
 repeats key x i n = not (eqb (first_of key x n) (suc i))
 
--- how many of n records have the key x
-unfoldable pub howMany : (ℕ → ℕ) → ℕ → ℕ → ℕ
-howMany key x zero = 0
-howMany key x (suc n) = howMany key x n + cond (eqb (key n) x) 1 0
-
 -- an ID that only a device may have (0) or that names nothing (65535)
 abbrev pub bad_id : ℕ → Bool
 bad_id x = eqb x 0 || eqb x 65535
@@ -151,9 +146,9 @@ abbrev pub record_rows : List ℕ → List Entry → ℕ → List Row
 record_rows p es i =
     own_rows (bad_own (kind_at es i) (id_at es i)) (repeats (id_at es) (id_at es i) i (length es)) ++ kind_rows p es i (kind_at es i)
 
--- the rules of the pool as a whole: no device; not one device element of type 1
+-- the rules of the pool as a whole: no device; no device element of type 1
 abbrev pub pool_rows : List ℕ → List Entry → List Row
-pool_rows p es = one 10 1 (eqb (first_of (kind_at es) 1 (length es)) 0) ∷ one 11 1 (not (eqb (howMany (type_key p es) 1 (length es)) 1)) ∷ []
+pool_rows p es = one 10 1 (eqb (first_of (kind_at es) 1 (length es)) 0) ∷ one 11 1 (eqb (first_of (type_key p es) 1 (length es)) 0) ∷ []
 
 -- the rows of a record by its number in a fault; 0 is the whole pool
 abbrev pub rows_of : List ℕ → List Entry → ℕ → List Row

@@ -22,9 +22,9 @@ ghost use Rattle.terminal.specs.Texts.{Gives};
 // The release: major * 10,000 + minor * 100 + patch.
 #[unsafe(no_mangle)]
 pub extern "C" fn lachsbrille_version() -> u32
-    ensures { result ≡ 20100 }
+    ensures { result ≡ 20000 }
 {
-    20100
+    20000
 }
 
 // Reads a pool into the table. The count of records or the refusal's place is written to the lent number.

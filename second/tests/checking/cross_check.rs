@@ -3,7 +3,7 @@
 use crate::literal;
 use crate::pools::{all_faults, pool_of_all_kinds, pool_q, table_for, Bytes};
 use crate::pools::{Det, Dpd, Dpt, Dvc, Dvp};
-use second::{check, read_element, read_pool, Fault, Kind};
+use second::{check, read_pool, Fault, Kind};
 
 const SEED: u64 = 11783;
 const SMALL_POOLS: usize = 20_000;
@@ -41,8 +41,6 @@ struct Maker {
     random: Random,
     /// IDs are mostly below this bound.
     ids: usize,
-    /// The usual types of elements; others are rare.
-    types: &'static [u8],
     most_entries: usize,
 }
 
@@ -105,7 +103,7 @@ impl Maker {
         let few = self.random.below(self.ids) as u16;
         let element = Det {
             id: self.id(),
-            element_type: self.mostly(self.types, &[0, 1, 7, 8, 255]),
+            element_type: self.mostly(&[1, 2, 7], &[0, 1, 7, 8, 255]),
             designator: self.text(),
             number: self.mostly(&[few], &[0, 1, 4_095, 4_096, 65_535]),
             parent: self.id(),
@@ -166,27 +164,6 @@ impl Maker {
     }
 }
 
-/// How often pools had no, one and several elements of type 1.
-#[derive(Default)]
-struct TypeCounts {
-    pools: [usize; 3],
-}
-
-impl TypeCounts {
-    fn note(&mut self, pool: &[u8]) {
-        let count = literal::entries(pool)
-            .iter()
-            .filter(|entry| entry.kind == Kind::Det)
-            .filter(|entry| read_element(pool, entry.start).element_type == 1)
-            .count();
-        self.pools[count.min(2)] += 1;
-    }
-
-    fn are_all_over(&self, bound: usize) -> bool {
-        self.pools.iter().all(|&count| count > bound)
-    }
-}
-
 /// Asserts that both checkers find the same faults and fill the table alike,
 /// and gives the faults.
 fn agreed_faults(pool: &[u8], name: &str) -> Vec<Fault> {
@@ -202,7 +179,6 @@ fn agreed_faults(pool: &[u8], name: &str) -> Vec<Fault> {
 fn random_small_pools() {
     let mut breached = [0; 13];
     let (mut of_pool, mut with_parent, mut without_parent) = (0, 0, 0);
-    let mut counts = TypeCounts::default();
     for index in 0..SMALL_POOLS {
         let state = SEED.wrapping_add((index as u64) << 32);
         let mut random = Random { state };
@@ -212,11 +188,9 @@ fn random_small_pools() {
         let mut maker = Maker {
             random,
             ids,
-            types: &[1, 2, 7],
             most_entries,
         };
         let pool = maker.pool(records);
-        counts.note(&pool);
         let entries = literal::entries(&pool);
         for fault in agreed_faults(&pool, &format!("small pool {index}")) {
             breached[usize::from(fault.rule)] += 1;
@@ -231,30 +205,22 @@ fn random_small_pools() {
     assert!(breached[1..].iter().all(|&count| count > 1_000));
     let by_object = [of_pool, with_parent, without_parent];
     assert!(by_object.iter().all(|&count| count > 1_000));
-    assert!(counts.are_all_over(1_000));
 }
 
 #[test]
 fn random_middle_pools() {
-    let mut counts = TypeCounts::default();
     for index in 0..MIDDLE_POOLS {
         let state = SEED.wrapping_mul(3).wrapping_add((index as u64) << 32);
         let mut random = Random { state };
         let ids = random.pick(&[30, 100, 300, 60_000]);
         let records = 50 + random.below(150);
-        let types = random.pick(&[&[1, 2, 7][..], &[2, 7]]);
         let mut maker = Maker {
             random,
             ids,
-            types,
             most_entries: 12,
         };
-        let pool = maker.pool(records);
-        counts.note(&pool);
-        agreed_faults(&pool, &format!("middle pool {index}"));
+        agreed_faults(&maker.pool(records), &format!("middle pool {index}"));
     }
-    // Where type 1 is as usual as others, a pool of this size has several.
-    assert!(counts.are_all_over(5));
 }
 
 /// Each byte of some small pools changed to each value. Where the pool is not

@@ -46,8 +46,10 @@ pub fn breaches(pool: &[u8]) -> Vec<Fault> {
     if !items.iter().any(|item| item.mark == b"DVC") {
         report(0, 10, 1);
     }
-    let of_type_1 = |item: &&Item| item.mark == b"DET" && item.element_type == 1;
-    if items.iter().filter(of_type_1).count() != 1 {
+    if !items
+        .iter()
+        .any(|item| item.mark == b"DET" && item.element_type == 1)
+    {
         report(0, 11, 1);
     }
     for at in 0..items.len() {

@@ -4,7 +4,6 @@
 mod buffers;
 mod chains;
 mod cross_check;
-mod device_elements;
 mod displayed;
 mod judging;
 mod lists;

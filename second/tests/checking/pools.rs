@@ -51,7 +51,7 @@ pub struct Det<'a> {
 }
 
 impl Det<'_> {
-    /// A device element of type device (1): a sound pool has exactly one.
+    /// A device element of type device (1), which every pool needs.
     pub fn root() -> Self {
         Det {
             element_type: 1,
@@ -199,17 +199,6 @@ pub fn after_device(records: &[&dyn Bytes]) -> Vec<u8> {
 /// Pool P of the worked lines.
 pub fn pool_p() -> Vec<u8> {
     pool(&[&Dvc::default(), &Det::root()])
-}
-
-/// P with its element a second time, under another ID and element number and
-/// with this type.
-pub fn pool_p_and_another(element_type: u8) -> Vec<u8> {
-    after_device(&[&Det {
-        id: 2,
-        element_type,
-        number: 1,
-        ..Det::default()
-    }])
 }
 
 /// Pool Q of the worked lines.

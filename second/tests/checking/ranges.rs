@@ -58,11 +58,6 @@ fn the_extended_label_is_free() {
 #[test]
 fn element_types_go_from_1_to_7() {
     for element_type in 0..=255 {
-        // Exactly one of the two elements has type 1.
-        let first = match element_type {
-            1 => Det::default(),
-            _ => Det::root(),
-        };
         let element = Det {
             id: 2,
             element_type,
@@ -71,8 +66,7 @@ fn element_types_go_from_1_to_7() {
         };
         let breached = element_type == 0 || element_type > 7;
         let expected = breached.then_some((3, 5, 1));
-        let found = faults(&pool(&[&Dvc::default(), &first, &element]));
-        assert_eq!(found, Vec::from_iter(expected));
+        assert_eq!(faults_after_device(&[&element]), Vec::from_iter(expected));
     }
 }
 

@@ -1,7 +1,6 @@
 //! Lists of session calls, by the session and by the book.
 
-use crate::pools::{after_device, fault, pool, pool_p, pool_p_and_another, pool_q};
-use crate::pools::{Det, Dpd, Dvc};
+use crate::pools::{after_device, fault, pool, pool_p, pool_q, Det, Dpd, Dvc};
 use second::{Book, Entry, Fault, Record, Session, Stage};
 
 /// A session with its areas, and the book of the same calls.
@@ -207,7 +206,6 @@ fn a_faulty_pool_is_24_with_five_numbers() {
     parent_1[40] = 1;
     for (pool, first) in [
         (pool_p()[..31].to_vec(), fault(0, 11, 1, 65_535, 65_535)),
-        (pool_p_and_another(1), fault(0, 11, 1, 65_535, 65_535)),
         (pool(&[&data]), fault(0, 10, 1, 65_535, 65_535)),
         (pool(&[&device, &Det::root()]), fault(1, 4, 1, 0, 65_535)),
         (pool_q()[..59].to_vec(), fault(3, 6, 2, 2, 1)),
@@ -224,34 +222,6 @@ fn a_faulty_pool_is_24_with_five_numbers() {
         assert_eq!(client.activate(4), (24, 0, first));
         assert_eq!(client.session, Session::new());
     }
-}
-
-#[test]
-fn a_second_element_of_type_1_is_24_and_the_kept_pool_stays() {
-    let offered = |client: &mut Client, pool: &[u8]| {
-        assert_eq!(client.offer(pool.len()), DONE);
-        assert_eq!(client.transfer(pool), DONE);
-    };
-    let mut client = Client::new(60, 60);
-    offered(&mut client, &pool_p());
-    assert_eq!(client.activate(2), DONE);
-
-    offered(&mut client, &pool_p_and_another(1));
-    assert_eq!(client.activate(2), refusal(7, 3));
-    assert_eq!(client.fields(), (true, 57, 57, 44, true));
-    let not_one = fault(0, 11, 1, 65_535, 65_535);
-    assert_eq!(client.activate(3), (24, 0, not_one));
-    assert_eq!(client.fields(), (false, 0, 0, 44, true));
-    assert_eq!(client.kept[..44], pool_p());
-    assert_eq!(client.kept[44..], [0x5A; 16]);
-
-    // P is activated again, and replaced by a pool with one such element.
-    assert_eq!(client.deactivate(), DONE);
-    assert_eq!(client.activate(0), DONE);
-    offered(&mut client, &pool_p_and_another(2));
-    assert_eq!(client.activate(3), DONE);
-    assert_eq!(client.fields(), (false, 0, 0, 57, true));
-    assert_eq!(client.kept[..57], pool_p_and_another(2));
 }
 
 #[test]

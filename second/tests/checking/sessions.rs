@@ -1,7 +1,7 @@
 //! Single session calls, on any value and any areas, and the book's branches
 //! that a list with the same areas does not reach.
 
-use crate::pools::{pool_p, pool_p_and_another, pool_q};
+use crate::pools::{pool_p, pool_q};
 use second::{read_pool, Answer, Book, Entry, Kind, Record, Session, Stage, Step};
 
 const UNTOUCHED: Record = Record {
@@ -164,21 +164,6 @@ fn a_kept_pool_is_activated_without_a_look_at_it() {
         assert_eq!(step, done(keeping(5, true)));
     }
     assert_eq!(table, [UNTOUCHED; 3]);
-}
-
-/// An offered pool with these bytes is refused.
-#[test]
-fn a_kept_pool_may_have_two_elements_of_type_1() {
-    let pool = pool_p_and_another(1);
-    let mut table = [UNTOUCHED; 4];
-    for active in [false, true] {
-        let mut kept = pool.clone();
-        let step = keeping(57, active).activate(&[], &mut kept, &mut table);
-        assert_eq!(step, done(keeping(57, true)));
-        assert_eq!((kept, table), (pool.clone(), [UNTOUCHED; 4]));
-    }
-    let step = offered(57, 57).activate(&pool, &mut [0; 57], &mut table);
-    assert_eq!((step.session, step.answer.number), (Session::new(), 24));
 }
 
 #[test]

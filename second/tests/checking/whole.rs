@@ -1,7 +1,6 @@
 //! Rules 1 to 3 on IDs and devices, 10 and 11 on the whole pool.
 
-use crate::pools::{after_device, all_faults, fault, faults, faults_after_device, pool};
-use crate::pools::{Bytes, Det, Dpd, Dpt, Dvc, Dvp};
+use crate::pools::{faults, faults_after_device, pool, Bytes, Det, Dpd, Dpt, Dvc, Dvp};
 
 const NO_FAULTS: [(u16, u8, u16); 0] = [];
 
@@ -140,12 +139,11 @@ fn a_pool_needs_an_element_of_type_1() {
 }
 
 #[test]
-fn two_elements_of_type_1_are_one_fault() {
+fn two_elements_of_type_1_are_no_fault() {
     let other = Det {
         id: 2,
         number: 1,
         ..Det::root()
     };
-    let expected = [fault(0, 11, 1, 65_535, 65_535)];
-    assert_eq!(all_faults(&after_device(&[&other])), expected);
+    assert_eq!(faults_after_device(&[&other]), NO_FAULTS);
 }
