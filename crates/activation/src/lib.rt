@@ -1,5 +1,7 @@
 // Activating: the pool that is offered is checked once all of it has arrived and, if it is accepted, kept; if nothing is offered, the
 // pool that is already kept becomes active.
+#![tactic(auto)]
+
 ghost use Rattle.std.specs.Prelude.{◌≡◌, ◌≤◌, length, take};
 ghost use Rattle.pool.specs.Walk.{Reaches, Listed};
 ghost use Rattle.checker.specs.Checking.{verdict_of, count_of};

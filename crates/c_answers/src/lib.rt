@@ -1,4 +1,6 @@
 // Answers as a C caller gets them: the number is the result; a place, a count or fields are written to lent numbers or to a struct.
+#![tactic(auto)]
+
 ghost use Rattle.std.specs.Prelude.{◌≡◌};
 ghost use Rattle.pool.specs.Answer.{answer_of};
 ghost use Rattle.checker.specs.Checking.{verdict_of};

@@ -1,5 +1,7 @@
 // What every C function except those of a session promises, tied to its contract: a contract that promises less, or that asks something
 // of its caller, breaks the claim. The functions do nothing: their contracts are the claims, so that the check's report names them.
+#![tactic(auto)]
+
 ghost use Rattle.c_functions.specs.Pools.{PoolsAnswered};
 ghost use Rattle.c_functions.specs.Objects.{ObjectsRead};
 ghost use Rattle.c_functions.specs.Exchange.{MessagesExchanged};

@@ -1,4 +1,6 @@
 // Worked cases, by computation. The functions do nothing: their contracts are the claims, so that the check's report names them.
+#![tactic(auto)]
+
 ghost use Rattle.cases.specs.Starred.{cases, Hold};
 ghost use Rattle.cases.specs.Worked.{Worked};
 ghost use Rattle.cases.specs.Objects.{Objects};

@@ -1,5 +1,7 @@
 // Which chains of parents never end, and which device elements repeat an element number. Both depend on many records, so they are found
 // for all records at once and marked by record number.
+#![tactic(auto)]
+
 ghost use Rattle.std.specs.Prelude.{◌≡◌, false, not, ◌&&◌, ℕ, suc, ◌+◌, ◌*◌, ◌≤◌, ◌<◌, eqb, length, get_or};
 ghost use Rattle.pool.specs.Walk.{entries_of, Divided};
 ghost use Rattle.marks.specs.Bits.{bit_at};

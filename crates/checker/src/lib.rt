@@ -1,4 +1,6 @@
 // Checking a pool against the rule table: the full count of faults, and the first ones in a lent buffer.
+#![tactic(auto)]
+
 use pool::Outcome;
 
 mod table;

@@ -1,5 +1,7 @@
 // The claims about reading, checking, the fields of a record, and the displayed value's refusal by the rule table. The functions do
 // nothing: their contracts are the claims, so that the check's report names them.
+#![tactic(auto)]
+
 ghost use Rattle.std.specs.Prelude.{List, ℕ};
 ghost use Rattle.claims.specs.Reads.{Reads};
 ghost use Rattle.claims.specs.Checks.{Checks};

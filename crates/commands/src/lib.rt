@@ -1,5 +1,7 @@
 // Commands judged over a working table that is a lent slice of records: as in `device_pool`, the pool is read and checked once, with a
 // list of its records' starts. The core (`judging`) answers by that list, and `working_table` fills the table by it.
+#![tactic(auto)]
+
 ghost use Rattle.std.specs.Prelude.{◌≡◌, ◌≤◌, length};
 ghost use Rattle.judging.specs.Judging.{judge_number, judge_error};
 ghost use Rattle.commands.specs.Tables.{records_judged};

@@ -1,4 +1,6 @@
 // A number in decimal digits: ASCII characters, written into lent memory.
+#![tactic(auto)]
+
 ghost use Rattle.std.specs.Prelude.{◌≡◌};
 ghost use Rattle.wire.specs.Bytes.{laid};
 ghost use Rattle.decimal.specs.Digits.{digits, place_after};

@@ -2,6 +2,8 @@
 // judging in `commands`.
 // Each function has the pool read and checked once, with a list of its records' starts. The core answers by that list, and
 // `working_table` fills the table by it.
+#![tactic(auto)]
+
 ghost use Rattle.std.specs.Prelude.{◌≡◌, ◌≤◌, length};
 ghost use Rattle.wire.specs.Parts.{place_in};
 ghost use Rattle.pool.specs.Walk.{Reaches, Listed};

@@ -1,5 +1,7 @@
 // A description of pools that is independent of the reader: whole records, and bytes that are not. The functions do nothing: their
 // contracts are the claims, so that the check's report names them.
+#![tactic(auto)]
+
 ghost use Rattle.std.specs.Prelude.{List, ℕ, ◌≤◌, length};
 ghost use Rattle.division.specs.Claims.{Unique, Shortest, Exactly};
 ghost use Rattle.division.specs.Written.{WholeAreWritten};

@@ -1,5 +1,7 @@
 // A fault buffer of numbers: each fault is its record, rule and item, followed by the object ID and the parent ID of its record. A fault
 // is written if it fits, and always counted. The functions that find faults write zeros for the two IDs; `objects` completes them.
+#![tactic(auto)]
+
 mod objects;
 
 ghost use Rattle.std.specs.Prelude.{◌+◌, ◌≤◌, ◌<◌, ◌^◌, true, [], ◌∷◌};

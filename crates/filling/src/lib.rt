@@ -1,5 +1,7 @@
 // Filling the working table: the laws by which a function over a lent slice of structs meets its contract. They hold for any struct,
 // and are proofs alone; the function is here only because a crate needs one.
+#![tactic(auto)]
+
 ghost use Rattle.std.specs.Prelude.{◌≡◌};
 
 pub fn one() -> u32

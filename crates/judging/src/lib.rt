@@ -1,4 +1,6 @@
 // Judging a command to the device: one error byte, by an accepted pool.
+#![tactic(auto)]
+
 ghost use Rattle.std.specs.Prelude.{◌≡◌, true, cond, suc, ◌*◌, ◌≤◌, eqb, length};
 ghost use Rattle.views.specs.Fields.{element_of};
 ghost use Rattle.pool.specs.Walk.{entries_of, Divided, Reaches, Listed};

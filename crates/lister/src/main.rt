@@ -1,5 +1,7 @@
 // Lists a pool from standard input: its records, and that it is accepted or its first faults; or, if it is refused, the number and the
 // place of the refusal. It writes the memory that `pool_listing::list` has filled.
+#![tactic(auto)]
+
 ghost use Rattle.std.specs.Prelude.{◌+◌, ◌^◌, ◌≤◌, ◌<◌, ◌≡◌, length};
 ghost use Rattle.lister.specs.Reading.{input_after, Further, Over};
 

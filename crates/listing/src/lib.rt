@@ -1,5 +1,7 @@
 // The lines of a listing. Each is put together in memory of its own and then copied into a lent buffer at a place; the place after it
 // is returned. A line that does not fit is left out as a whole: buffer and place stay as they were.
+#![tactic(auto)]
+
 ghost use Rattle.std.specs.Prelude.{◌+◌, ◌≤◌, ◌≡◌, ◌++◌, length, take};
 ghost use Rattle.wire.specs.Bytes.{laid};
 ghost use Rattle.decimal.specs.Digits.{digits, place_after};

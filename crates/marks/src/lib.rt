@@ -1,4 +1,6 @@
 // A set of numbers as a list of bits, eight in a byte: a number in the set is marked. The list is lent.
+#![tactic(auto)]
+
 ghost use Rattle.std.specs.Prelude.{◌≡◌, ◌||◌, ℕ, ◌*◌, ◌<◌, eqb, length};
 ghost use Rattle.marks.specs.Bits.{bit_at};
 

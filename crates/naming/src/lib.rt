@@ -1,6 +1,8 @@
 // What IDs name, by short lists: a head for each slot of IDs, and from each record a link to an earlier one of the same slot.
 // Links lead to smaller numbers only, so every walk along them ends. The lists are lent: the caller chooses the number of heads,
 // and no ID is too large for them.
+#![tactic(auto)]
+
 ghost use Rattle.std.specs.Prelude.{◌≡◌, true, not, suc, ◌+◌, ◌≤◌, ◌<◌, eqb, length};
 ghost use Rattle.pool.specs.Walk.{entries_of, Divided};
 ghost use Rattle.naming.specs.Records.{id_at, kind_at};

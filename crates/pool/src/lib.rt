@@ -1,4 +1,6 @@
 // Reading a pool: whether it divides into records, and where these start. `list_for` needs a list that is long enough for all records.
+#![tactic(auto)]
+
 ghost use Rattle.std.specs.Prelude.{◌≡◌, ◌*◌, ◌<◌, length};
 ghost use Rattle.pool.specs.Answer.{answer_of, records_in};
 ghost use Rattle.pool.specs.Reading.{scan_of, read_of};

@@ -1,5 +1,7 @@
 // Counts the faults of a pool whose records have been listed, in one pass: each record is looked at once, and its faults are reported at
 // once, so that they come in order.
+#![tactic(auto)]
+
 ghost use Rattle.std.specs.Prelude.{◌≡◌, true, false, not, ◌&&◌, ◌||◌, ℕ, suc, ◌+◌, ◌*◌, ◌≤◌, ◌<◌, ◌^◌, eqb, ltb, length};
 ghost use Rattle.marks.specs.Bits.{bit_at};
 ghost use Rattle.faults.specs.Emission.{Emits};

@@ -1,4 +1,6 @@
 // The listing of a pool, written into lent memory: the lines that the lister prints, defined by the pool's bytes alone.
+#![tactic(auto)]
+
 ghost use Rattle.std.specs.Prelude.{◌+◌, ◌*◌, ◌≤◌, ◌≡◌, List, length};
 ghost use Rattle.std.proofs.lemmas.List.Edits.{sets};
 ghost use Rattle.faults.specs.Faults.{FaultEntry, width};

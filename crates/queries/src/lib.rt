@@ -1,5 +1,7 @@
 // Queries of an accepted pool: a record's text by its ID, and the labels of the device. The pool has been checked, for a table of
 // `room` entries.
+#![tactic(auto)]
+
 ghost use Rattle.std.specs.Prelude.{◌≡◌, ◌≤◌, length};
 ghost use Rattle.wire.specs.Parts.{place_in};
 ghost use Rattle.views.specs.Fields.{part_of, start_in, device_of};

@@ -1,5 +1,7 @@
 // What texts and labels of an accepted pool are, and that a text is a slice of the lent pool. The functions do nothing: their contracts
 // are the claims, so that the check's report names them.
+#![tactic(auto)]
+
 ghost use Rattle.query_claims.specs.Texts.{AcceptedQueries};
 ghost use Rattle.query_claims.specs.Lent.{TextsLent};
 

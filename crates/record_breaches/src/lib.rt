@@ -1,5 +1,7 @@
 // The breaches of one record, written to a fault buffer in the order of rules and items. Most records have none: for these one look
 // is usually enough.
+#![tactic(auto)]
+
 mod element;
 mod look;
 mod other;

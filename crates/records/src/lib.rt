@@ -1,5 +1,7 @@
 // The five records of annex A: their marks, where a record ends, and what fields it has. Every public function takes any bytes and any
 // place, except that `marked_kind`, `kind_number`, `is_data` and `parent_id` of `view` require a mark at the place.
+#![tactic(auto)]
+
 mod end;
 pub mod view;
 

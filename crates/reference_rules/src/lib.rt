@@ -1,5 +1,7 @@
 // The rules about what a device element refers to: its parent and its list of entries. Entries are read from the pool and looked up
 // when they are needed: no list of the records that they name is kept.
+#![tactic(auto)]
+
 mod doubles;
 mod links;
 

@@ -1,5 +1,7 @@
 // One client's session: a pool is offered and transferred in pieces; `activation` activates it. The session is a value that each
 // call takes and returns; the bytes are in two areas that the caller lends. A C caller holds the same value, so it is numbers alone.
+#![tactic(auto)]
+
 ghost use Rattle.std.specs.Prelude.{◌≡◌, length};
 ghost use Rattle.session.specs.Answers.{reply, reply_of, reply_in};
 ghost use Rattle.session.specs.Calls.{is_offered, new_session, ended, impossible, step_of, offer_of, transfer_of, staging_after, deactivate_of, delete_of, lost_of};

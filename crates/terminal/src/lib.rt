@@ -1,5 +1,7 @@
 // The C interface: numbers and lent memory. A call returns 0 or the number of a refusal; a count or a place is written to a lent
 // number. The working table is a lent slice of records.
+#![tactic(auto)]
+
 use queries::DeviceLabels;
 use working_table::Record;
 

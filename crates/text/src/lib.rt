@@ -1,5 +1,7 @@
 // One text: whether it is well-formed UTF-8 (RFC 3629), does not begin with the byte order mark EF BB BF and has at most 32
 // characters.
+#![tactic(auto)]
+
 ghost use Rattle.std.specs.Prelude.{◌≡◌, true, cond, ◌&&◌, List, ℕ, ◌+◌, ◌-◌, ◌≤◌, ◌<◌, length, get_or, take, drop};
 ghost use Rattle.text.specs.Octets as O;
 ghost use Rattle.text.specs.Characters.{characters_in, width_at};

@@ -1,5 +1,7 @@
 // Log records: time and position, the fields that a layout marks, and log values with their ordinals; the places of these, and which
 // of them are judged.
+#![tactic(auto)]
+
 mod contents;
 mod judging;
 

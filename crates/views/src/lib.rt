@@ -1,5 +1,7 @@
 // The fields of the record that starts at a place, by value. A place has 16 bits, as every record's start does. If the record
 // is not whole, bytes past the pool's end are read as 0. Every public function takes any bytes and any place.
+#![tactic(auto)]
+
 ghost use Rattle.std.specs.Prelude.{◌≡◌, ℕ, ◌+◌, ◌*◌, ◌≤◌, ◌<◌};
 ghost use Rattle.wire.specs.Bytes.{number_in};
 ghost use Rattle.wire.specs.Parts.{place_in};

@@ -1,5 +1,7 @@
 // Little-endian numbers in bytes, parts of bytes, and copying. Every public function takes any slice, place and number, except `number`,
 // `word`, `pair` and `put`, whose callers know that the bytes are within the slice.
+#![tactic(auto)]
+
 ghost use Rattle.std.specs.Prelude.{◌≡◌, ◌+◌, ◌-◌, ◌≤◌, ◌<◌, ◌^◌, min, leb, length, get_or, take, drop};
 ghost use Rattle.std.proofs.lemmas.List.Edits.{sets};
 ghost use Rattle.wire.specs.Bytes.{bytes_of, number_in, signed_of, bits_of, laid};

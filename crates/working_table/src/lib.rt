@@ -1,5 +1,7 @@
 // The working table: a lent slice of records, one entry for each record of a pool. The pool is read first, so that a refusal
 // leaves the table as it was. Then the table is filled from the pool, by the starts of the records that reading has listed.
+#![tactic(auto)]
+
 ghost use Rattle.std.specs.Prelude.{◌≡◌, ◌≤◌, length};
 ghost use Rattle.pool.specs.Answer.{answer_of};
 ghost use Rattle.pool.specs.Reading.{read_of};

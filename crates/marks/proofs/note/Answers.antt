@@ -1,0 +1,6 @@
+-- `marks::note` meets its contract.
+use borrow.Author.Rules.{rules}
+use Rattle.marks.proofs.note.Goals as goal
+
+pub returns : goal.returns
+returns c = (c.is_marked-before.ensures, c.mark.ensures.0, c.mark.ensures.1)

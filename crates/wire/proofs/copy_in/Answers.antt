@@ -1,0 +1,29 @@
+-- `wire::copy_in` meets its contract: the bytes with those that are still to be copied are the final ones.
+use mathlib.Core.Path.{◌≡◌, refl, sym, ◌∙◌}
+use mathlib.Core.List.{List, []}
+use Prim.Native.Nat.{ℕ, ◌+◌, ◌-◌, ◌≤◌, ◌<◌}
+use native.Mathlib.Nat.{add-zero}
+use native.Mathlib.Omega.{arith}
+use lib.ListN.{length, drop, length-set, drop_of_length-le}
+use lib.Seq.{sets}
+use Rattle.wire.proofs.Laid.{lay_step}
+use Rattle.wire.proofs.copy_in.Goals as goal
+
+pub loop-i-init : goal.loop-i-init
+loop-i-init c = (omega arith, refl, rw add-zero)
+
+pub loop-i-preserved : goal.loop-i-preserved
+loop-i-preserved c =
+    let a = c.args in
+    let l = c.loop-i in
+    (omega arith, simp length-set l.invariant.1, sym (lay_step l.to a.from.now a.at l.i c.loop-i-test.true) ∙ l.invariant.2)
+
+pub shape_of-to : goal.shape_of-to
+shape_of-to c = c.loop-i.invariant.1
+
+pub returns : goal.returns
+returns c =
+    let a = c.args in
+    let l = c.loop-i in
+    let z : drop l.i a.from.now ≡ [] = drop_of_length-le a.from.now {i = l.i} c.loop-i-test.false in
+    rw z at l.invariant.2
