@@ -44,16 +44,11 @@ walk-counted room n s h e =
     ap (counted room) w.0 ∙ rw w.1
 
 -- an outcome that is no count has a refusal's number
-keys-positive : (ks : List ℕ) → OneOf (map suc ks) 0 → ⊥
-keys-positive [] j = j
-keys-positive (k ∷ []) j = omega arith
-keys-positive (k ∷ (l ∷ ks)) j = ⊎_elim (λ (e : 0 ≡ suc k). omega arith) (keys-positive (l ∷ ks)) j
-
 abbrev pub NoCount : Outcome → Type 0
-NoCount w = OneOf (1 ∷ 2 ∷ 3 ∷ 4 ∷ 5 ∷ 6 ∷ 7 ∷ []) (tag_of the_type w)
+NoCount w = (n : ℕ) → w ≡ Records n → ⊥
 
 pub no-count : (w : Outcome) → NoCount w → (answer_of w).number ≡ 0 → ⊥
-no-count (Records n) j f = keys-positive (0 ∷ 1 ∷ 2 ∷ 3 ∷ 4 ∷ 5 ∷ 6 ∷ []) j
+no-count (Records n) j f = j n refl
 no-count Empty j f = omega arith
 no-count TooLong j f = omega arith
 no-count (NoMark at) j f = omega arith

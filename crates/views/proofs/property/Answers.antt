@@ -1,0 +1,10 @@
+-- `views::property` meets its contract.
+use mathlib.Core.Path.{◌∙◌}
+use mir.Syntax.{w32}
+use mir.ValLaws.{to_z-of_z}
+use Rattle.views.proofs.Views.{property-view}
+use borrow.Author.Rules.{rules}
+use Rattle.views.proofs.property.Goals as goal
+
+pub returns : goal.returns
+returns c = property-view c.args.p.now c.args.at _ _ _ _ c.read_u16-ddi.ensures (to_z-of_z w32 c.read_i32-value.result (record { sfits = c.read_i32-value.type_inv }) ∙ c.read_i32-value.ensures) c.text-designator.ensures.0 c.read_u16-presentation.ensures

@@ -1,0 +1,10 @@
+-- `views::value_presentation` meets its contract.
+use mathlib.Core.Path.{◌∙◌}
+use mir.Syntax.{w32}
+use mir.ValLaws.{to_z-of_z}
+use Rattle.views.proofs.Views.{presentation-view}
+use borrow.Author.Rules.{rules}
+use Rattle.views.proofs.value_presentation.Goals as goal
+
+pub returns : goal.returns
+returns c = presentation-view c.args.p.now c.args.at _ _ _ _ (to_z-of_z w32 c.read_i32-offset.result (record { sfits = c.read_i32-offset.type_inv }) ∙ c.read_i32-offset.ensures) c.read_u32-scale.ensures c.read_u8-decimals.ensures c.text-unit.ensures.0
