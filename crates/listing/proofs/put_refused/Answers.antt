@@ -1,0 +1,24 @@
+-- `listing::put_refused` meets its contract.
+use mathlib.Core.Path.{◌≡◌, sym, ap, ◌∙◌}
+use mathlib.Core.List.{List, ◌++◌}
+use Prim.Native.Nat.{ℕ}
+use borrow.Author.Rules.{rules}
+use lib.ListN.{take}
+use lib.Seq.{length-take-le}
+use Rattle.wire.specs.Bytes.{laid}
+use Rattle.decimal.specs.Digits.{digits, place_after}
+use Rattle.listing.specs.Lines.{newline, refused_line, space}
+use Rattle.listing.proofs.put_refused.Goals as goal
+
+pub slice_bounds-line-end : goal.slice_bounds-line-end
+slice_bounds-line-end c = c.add-end.ensures.2
+
+pub slice_bounds-lay-end : goal.slice_bounds-lay-end
+slice_bounds-lay-end c = sym (length-take-le c.add-end.result c.add-end.new.line c.add-end.ensures.2)
+
+pub returns : goal.returns
+unfolding refused_line
+returns c =
+    let a = c.args in
+    let line : take c.add-end.result c.add-end.new.line ≡ refused_line a.number a.place = c.add-end.ensures.0 ∙ ap (λ (l : List ℕ). l ++ newline) (c.add_number-b.ensures.0 ∙ ap (λ (l : List ℕ). l ++ space ++ digits a.place) c.add_number-a.ensures.0) in
+    (c.lay.ensures.0 ∙ ap (laid a.out.now a.at) line, c.lay.ensures.1 ∙ ap (place_after a.out.now a.at) line)

@@ -1,0 +1,20 @@
+-- `naming::is_data_at` meets its contract.
+use mathlib.Core.Path.{◌≡◌, ap, ◌∙◌}
+use Prim.Native.Nat.{suc, ◌-◌, ◌<◌}
+use native.Mathlib.Omega.{arith}
+use lib.ListN.{length}
+use Rattle.pool.proofs.Starts.{starts-marked}
+use Rattle.naming.specs.Naming.{is_data_kind}
+use Rattle.naming.proofs.Starts.{kind-read}
+use borrow.Author.Rules.{rules}
+use Rattle.naming.proofs.is_data_at.Goals as goal
+
+pub returns-then-number-eq0 : goal.returns-then-number-eq0
+returns-then-number-eq0 c = rw c.if-number-eq0.true
+
+pub is_data-requires : goal.is_data-requires
+is_data-requires c =
+    starts-marked c.args.p.now c.args.starts.now c.requires.0 (c.args.number - 1) (omega (arith, c.requires.1, c.if-number-eq0.false))
+
+pub returns : goal.returns
+returns c = c.is_data.ensures ∙ ap is_data_kind (kind-read c.args.p.now c.args.starts.now c.args.number c.if-number-eq0.false c.requires.1)

@@ -1,0 +1,64 @@
+-- `naming::link_ids` meets its contract: after i records the lists are right for those.
+use mathlib.Core.Path.{◌≡◌, refl, sym, ap, ◌∙◌}
+use mathlib.Core.Bool.{true, true≢false}
+use mathlib.Core.Logic.{⊎_elim}
+use Prim.Native.Nat.{ℕ, ◌+◌, ◌-◌, ◌≤◌, ◌<◌}
+use native.Mathlib.Nat.{eq-or-lt_of_le, not-suc-le-zero}
+use native.Mathlib.Omega.{arith}
+use borrow.Author.Tests.{not-false}
+use lib.ListN.{length}
+use Rattle.naming.specs.Lists.{id_in}
+use Rattle.naming.specs.Chained.{opens, Chained, Names}
+use Rattle.naming.proofs.Chained.{chained-none}
+use Rattle.naming.proofs.link_ids.Invariants.{Opened}
+use Rattle.naming.proofs.link_ids.Goals as goal
+use Rattle.naming.proofs.link_ids.Goals.{then-not-enter, else-not-enter}
+
+opened-more : (key : ℕ → ℕ) (i : ℕ) → Opened key i → opens key i ≡ true → Opened key (i + 1)
+opened-more key i before o j l = ⊎_elim (λ (s : j ≡ i). rw s o) (λ (s : j < i). before j s) (eq-or-lt_of_le (omega arith))
+
+pub overflow_sub-count : goal.overflow_sub-count
+overflow_sub-count c = omega (arith, c.requires.0.some)
+
+pub loop-i-init : goal.loop-i-init
+loop-i-init c =
+    let a = c.args in
+    (omega arith, refl, refl, chained-none (id_in a.p.now a.starts.now) a.heads.now a.next.now c.requires.2 c.requires.3, λ t j l. absurd (not-suc-le-zero l))
+
+pub enter-requires : goal.enter-requires
+enter-requires c =
+    (c.requires.0, omega (arith, c.loop-i-test.true), omega (arith, c.loop-i.invariant.2, c.requires.1), c.loop-i.invariant.3)
+
+pub overflow_add-i : goal.overflow_add-i
+overflow_add-i c = omega (arith, c.loop-i-test.true)
+
+pub loop-i-smaller : goal.loop-i-smaller
+loop-i-smaller c = omega (arith, c.loop-i-test.true)
+
+pub loop-i-preserved : goal.loop-i-preserved
+loop-i-preserved c =
+    let l = c.loop-i in
+    let a = c.args in (
+      omega (arith, c.loop-i-test.true),
+      c.enter.auto.heads ∙ l.invariant.1,
+      c.enter.auto.next ∙ l.invariant.2,
+      c.enter.ensures.1,
+      elim c.if-not-enter.branch [
+        then-not-enter w ↦ λ t. absurd (true≢false (sym t ∙ w.distinct-is))
+      | else-not-enter w ↦ λ t. opened-more (id_in a.p.now a.starts.now) l.i (l.invariant.4 (sym w.distinct-is ∙ t)) (sym c.enter.ensures.0 ∙ w.if-not-enter.false)
+      ],
+    )
+
+pub shape_of-heads : goal.shape_of-heads
+shape_of-heads c = c.loop-i.invariant.1
+
+pub shape_of-next : goal.shape_of-next
+shape_of-next c = c.loop-i.invariant.2
+
+pub returns : goal.returns
+unfolding Names
+returns c =
+    let a = c.args in
+    let l = c.loop-i in
+    let end : l.i ≡ length a.starts.now - 1 = omega (arith, c.loop-i-test.false, l.invariant.0) in
+    (record { divided = c.requires.0; room = omega (arith, c.requires.1, l.invariant.2); chained = rw end at l.invariant.3 }, λ t. rw end at (l.invariant.4 t))
