@@ -53,7 +53,7 @@ fn unread(verdict: Verdict) -> Answer
 }
 
 // The answer of activating, and how many entries of the table have to be filled.
-#[derive(Drop)]
+#[derive(Clone, Copy)]
 pub struct Activated {
     pub step: Step,
     pub records: usize,

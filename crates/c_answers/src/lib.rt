@@ -42,7 +42,7 @@ pub fn give_place(place: Place, from: &mut usize, to: &mut usize) -> u32
 // A message that is read: number 0 and its fields, where an acknowledge has command 13, or the number of a refusal with zeros. In this
 // order the fields take 16 bytes, which x86-64 and aarch64 both return in two registers.
 #[repr(C)]
-#[derive(Drop)]
+#[derive(Clone, Copy)]
 pub struct MessageFields {
     pub number: u32,
     pub value: i32,
@@ -113,7 +113,7 @@ pub fn give_judgement(judgement: Judgement, error: &mut u8) -> u32
 
 // The session value after a call and the call's answer: number 0, or a refusal's number with its place or the first fault.
 #[repr(C)]
-#[derive(Drop)]
+#[derive(Clone, Copy)]
 pub struct StepFields {
     pub session: Session,
     pub place: usize,

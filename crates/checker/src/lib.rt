@@ -13,7 +13,7 @@ pub use table::check;
 
 // What checking answers: the count of records and the full count of faults, or why the pool cannot be read and where. The refusals
 // are in the order of their numbers, 1 to 7.
-#[derive(Drop)]
+#[derive(Clone, Copy)]
 pub enum Verdict {
     Checked { records: usize, faults: usize },
     Empty,

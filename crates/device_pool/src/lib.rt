@@ -15,13 +15,13 @@ use queries::{DeviceLabels, Place};
 use working_table::Record;
 
 // An answer, and how many records are listed.
-#[derive(Drop)]
+#[derive(Clone, Copy)]
 pub struct Found {
     pub records: usize,
     pub place: Place,
 }
 
-#[derive(Drop)]
+#[derive(Clone, Copy)]
 struct Shown {
     records: usize,
     labels: DeviceLabels,

@@ -8,7 +8,7 @@ ghost use Rattle.faults.specs.Completing.{named_from, Below, Unnamed, Completed}
 use super::WIDTH;
 use records::view;
 
-#[derive(Drop)]
+#[derive(Clone, Copy)]
 struct Ids {
     id: u16,
     parent: u16,

@@ -14,14 +14,14 @@ ghost use Rattle.judging.specs.Parts.{JudgedAmong, judged_count};
 use pool::Outcome;
 
 // Number 0 and the error byte, or a refusal's number and 0.
-#[derive(Drop)]
+#[derive(Clone, Copy)]
 pub struct Judgement {
     pub number: u32,
     pub error: u8,
 }
 
 // A judgement, and how many entries of the table have to be filled.
-#[derive(Drop)]
+#[derive(Clone, Copy)]
 pub struct Judged {
     pub records: usize,
     pub judgement: Judgement,
@@ -35,7 +35,7 @@ fn judgement_of(records: usize, number: u32, error: u8) -> Judged
 }
 
 // The property bits and trigger bits of an object.
-#[derive(Drop)]
+#[derive(Clone, Copy)]
 struct Bits {
     properties: u8,
     triggers: u8,

@@ -8,7 +8,7 @@ ghost use Rattle.lister.specs.Reading.{input_after, Further, Over};
 use libc::{STDERR_FILENO, STDIN_FILENO, STDOUT_FILENO};
 
 // How far reading has come: this many bytes and perhaps more to come, all bytes, namely this many, or a read that failed.
-#[derive(Drop)]
+#[derive(Clone, Copy)]
 enum Input {
     More(usize),
     Ended(usize),

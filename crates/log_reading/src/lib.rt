@@ -14,7 +14,7 @@ use time_log::Fields;
 
 // What reading a record answers: number 0 with its length, its count of values and its fields, or a refusal with zeros.
 #[repr(C)]
-#[derive(Drop)]
+#[derive(Clone, Copy)]
 pub struct Record {
     pub number: u32,
     pub length: usize,
@@ -116,7 +116,7 @@ pub fn read_record(
 
 // What reading a log answers: number 0 and the count of its records, or a refusal and the start of the refused record.
 #[repr(C)]
-#[derive(Drop)]
+#[derive(Clone, Copy)]
 pub struct Log {
     pub number: u32,
     pub count: usize,

@@ -15,7 +15,7 @@ use time_log::Fields;
 
 // What writing a record answers: number 0 and its length, or a refusal and 0.
 #[repr(C)]
-#[derive(Drop)]
+#[derive(Clone, Copy)]
 pub struct Written {
     pub number: u32,
     pub length: usize,

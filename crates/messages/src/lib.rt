@@ -10,7 +10,7 @@ ghost use Rattle.messages.specs.Back.{ReadsBack};
 ghost use Rattle.messages.specs.Worked.{WorkedMessages};
 
 // What reading answers: a value message, an acknowledge, or a refusal (30 and 31).
-#[derive(Drop)]
+#[derive(Clone, Copy)]
 pub enum Message {
     Value {
         command: u8,
@@ -29,7 +29,7 @@ pub enum Message {
 }
 
 // What writing answers. The refusals are 31, 32 and 33.
-#[derive(Drop)]
+#[derive(Clone, Copy)]
 pub enum Written {
     Done,
     NoCommand,

@@ -10,7 +10,7 @@ use records::Extent;
 
 // What reading answers: the count of records, or why the pool is refused and where. The refusals are in the order of their
 // numbers, 1 to 7.
-#[derive(Drop)]
+#[derive(Clone, Copy)]
 pub enum Outcome {
     Records(usize),
     Empty,

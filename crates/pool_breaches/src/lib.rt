@@ -17,7 +17,7 @@ ghost use Rattle.pool_breaches.specs.Passing.{Completes, BreachesMarked, Sighted
 use records::DeviceElement;
 
 // The state after some records: how many faults were counted, and whether all records have been marked for rules 8 and 9.
-#[derive(Drop)]
+#[derive(Clone, Copy)]
 struct Passed {
     n: usize,
     full: bool,
@@ -94,7 +94,7 @@ fn is_endless(endless: &[u8], i: usize, full: bool) -> bool
 }
 
 // Whether a device element breaks rules 8 and 9, and whether all records are now marked.
-#[derive(Drop)]
+#[derive(Clone, Copy)]
 struct Settled {
     again: bool,
     endless: bool,

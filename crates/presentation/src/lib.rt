@@ -7,14 +7,14 @@ ghost use Rattle.std.specs.Float.Ieee.{of_int};
 ghost use Rattle.presentation.specs.Display.{in_range, answer_of, Shown};
 ghost use Rattle.presentation.specs.Fixed.{BitsAreFixed, FiftyIsRuleFive};
 
-#[derive(Drop)]
+#[derive(Clone, Copy)]
 pub struct Presentation {
     pub offset: i32,
     pub scale: f32,
     pub decimals: u8,
 }
 
-#[derive(Drop)]
+#[derive(Clone, Copy)]
 pub enum Displayed {
     Value(f64),
     Refused,

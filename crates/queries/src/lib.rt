@@ -14,7 +14,7 @@ use checker::Verdict;
 use records::Span;
 
 // The place of a text in the pool, or the number of a refusal with zeros.
-#[derive(Drop)]
+#[derive(Clone, Copy)]
 pub struct Place {
     pub number: u32,
     pub from: usize,
@@ -23,7 +23,7 @@ pub struct Place {
 
 // The labels of the device, or the number of a refusal with zeros.
 #[repr(C)]
-#[derive(Drop)]
+#[derive(Clone, Copy)]
 pub struct DeviceLabels {
     pub number: u32,
     pub structure: [u8; 7],

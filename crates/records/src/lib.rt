@@ -5,7 +5,7 @@
 mod end;
 pub mod view;
 
-#[derive(Drop)]
+#[derive(Clone, Copy)]
 pub enum Kind {
     Dvc,
     Det,
@@ -15,14 +15,14 @@ pub enum Kind {
 }
 
 // The kind that the first three bytes of a record tell.
-#[derive(Drop)]
+#[derive(Clone, Copy)]
 pub enum Mark {
     Of(Kind),
     Unknown,
 }
 
 // A record at a place, read from left to right: where it ends, or the first thing wrong with it.
-#[derive(Drop)]
+#[derive(Clone, Copy)]
 pub enum Extent {
     Ends(usize),
     NoMark,
@@ -32,14 +32,14 @@ pub enum Extent {
 
 // A part of the pool: from one place up to, but not including, another.
 #[repr(C)]
-#[derive(Drop)]
+#[derive(Clone, Copy)]
 pub struct Span {
     pub from: usize,
     pub to: usize,
 }
 
 #[repr(C)]
-#[derive(Drop)]
+#[derive(Clone, Copy)]
 pub struct Device {
     pub designator: Span,
     pub version: Span,
@@ -51,7 +51,7 @@ pub struct Device {
 }
 
 #[repr(C)]
-#[derive(Drop)]
+#[derive(Clone, Copy)]
 pub struct DeviceElement {
     pub element_type: u8,
     pub designator: Span,
@@ -61,7 +61,7 @@ pub struct DeviceElement {
 }
 
 #[repr(C)]
-#[derive(Drop)]
+#[derive(Clone, Copy)]
 pub struct ProcessData {
     pub ddi: u16,
     pub properties: u8,
@@ -71,7 +71,7 @@ pub struct ProcessData {
 }
 
 #[repr(C)]
-#[derive(Drop)]
+#[derive(Clone, Copy)]
 pub struct Property {
     pub ddi: u16,
     pub value: i32,
@@ -81,7 +81,7 @@ pub struct Property {
 
 // The scale is given as its bits, by which its range is judged.
 #[repr(C)]
-#[derive(Drop)]
+#[derive(Clone, Copy)]
 pub struct ValuePresentation {
     pub offset: i32,
     pub scale: u32,

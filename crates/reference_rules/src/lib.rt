@@ -55,7 +55,7 @@ fn is_wrong_entry(p: &[u8], starts: &[u16], named: u16) -> bool
 
 // What a walk over the entries has found: the count of faults, whether an entry names a record of a wrong kind, and how many entries
 // name process data or a property.
-#[derive(Drop)]
+#[derive(Clone, Copy)]
 struct Looked {
     n: usize,
     wrong: bool,

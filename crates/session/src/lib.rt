@@ -8,7 +8,7 @@ ghost use Rattle.session.specs.Calls.{is_offered, new_session, ended, impossible
 
 // Stage 0 is none and 1 offered; active is 0 or 1. A value with any other number is impossible.
 #[repr(C)]
-#[derive(Drop)]
+#[derive(Clone, Copy)]
 pub struct Session {
     pub announced: u32,
     pub received: u32,
@@ -18,7 +18,7 @@ pub struct Session {
 }
 
 // What a call answers. The refusals are in the order of their numbers: 3 to 7 from reading the pool, then 20 to 27.
-#[derive(Drop)]
+#[derive(Clone, Copy)]
 pub enum Answer {
     Done,
     NoMark(usize),
@@ -42,14 +42,14 @@ pub enum Answer {
     CannotArise,
 }
 
-#[derive(Drop)]
+#[derive(Clone, Copy)]
 pub struct Step {
     pub session: Session,
     pub answer: Answer,
 }
 
 // An answer in numbers.
-#[derive(Drop)]
+#[derive(Clone, Copy)]
 pub struct Numbers {
     pub number: u32,
     pub place: usize,

@@ -20,7 +20,7 @@ use session::Session;
 use working_table::Record;
 
 // The number of an answer, and how many entries of the table have to be filled.
-#[derive(Drop)]
+#[derive(Clone, Copy)]
 pub struct Told {
     pub records: usize,
     pub number: u32,
@@ -110,7 +110,7 @@ pub fn judge_told(
 }
 
 // The answer of activating, and how many entries of the table have to be filled.
-#[derive(Drop)]
+#[derive(Clone, Copy)]
 pub struct Stepped {
     pub records: usize,
     pub step: StepFields,

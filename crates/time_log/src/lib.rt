@@ -13,7 +13,7 @@ pub use judging::{any_over, judged, refusal};
 
 // A record's fields. A field that the layout does not mark is 0.
 #[repr(C)]
-#[derive(Drop)]
+#[derive(Clone, Copy)]
 pub struct Fields {
     pub time: u32,
     pub days: u16,
@@ -30,7 +30,7 @@ pub struct Fields {
 
 // Refusal 47, or 0 and the number of optional fields.
 #[repr(C)]
-#[derive(Drop)]
+#[derive(Clone, Copy)]
 pub struct Marks {
     pub number: u32,
     pub count: u32,
@@ -52,7 +52,7 @@ pub fn optional_fields(layout: u32) -> Marks
 }
 
 // The places of the optional fields, which follow each other, and of the count byte after them. North is always at 6.
-#[derive(Drop)]
+#[derive(Clone, Copy)]
 pub struct Places {
     pub east: usize,
     pub up: usize,

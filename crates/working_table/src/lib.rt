@@ -13,7 +13,7 @@ use records::view;
 
 // An entry of the table. The kind is its number: 1 DVC, 2 DET, 3 DPD, 4 DPT, 5 DVP. Only a DET has a parent ID; the others have 65535.
 #[repr(C)]
-#[derive(Drop)]
+#[derive(Clone, Copy)]
 pub struct Record {
     pub start: u16,
     pub length: u16,

@@ -1,4 +1,4 @@
--- `log_reading::worked_records_hold` meets its contract: each follows by computation. Assumes nothing.
+-- `log_reading::worked_records_hold` meets its contract: each follows by computation.
 use mathlib.Core.Path.{refl}
 use Rattle.wire.specs.Bytes.{le_of, bytes_of, number_in, signed_of, bits_of}
 use Rattle.time_log.specs.Layout.{part_width, place_of, record_length}
@@ -7,8 +7,7 @@ use Rattle.time_log.specs.Judging.{one_over, refusal_of_fields, record_refusal}
 use Rattle.log_reading.specs.Reading.{read_refusal, read_of, ordinals_after, values_after}
 use Rattle.log_reading.specs.Logs.{walk, log_of}
 use Rattle.log_reading.specs.Worked.{RecordsRead, LimitsJudged}
-use Rattle.log_reading.proofs.worked_records_hold.Statement.{statement}
-use Rattle.log_reading.proofs.worked_records_hold.Tie as tie
+use Rattle.log_reading.proofs.worked_records_hold.Goals as goal
 
 read : RecordsRead
 unfolding le_of number_in signed_of part_width place_of record_length part_at spaced signed_from one_over refusal_of_fields record_refusal read_refusal read_of ordinals_after values_after walk log_of
@@ -38,8 +37,5 @@ limits =
       ordinal = refl;
     }
 
-returns : tie.Need-returns
+pub returns : goal.returns
 returns c = record { read = read; limits = limits }
-
-pub worked-records-hold-spec : {M : Type 1} → statement M
-worked-records-hold-spec = tie.close (tie.spec returns)
