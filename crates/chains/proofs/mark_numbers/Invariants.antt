@@ -1,0 +1,28 @@
+-- `chains::mark_numbers` meets its contract: the element numbers of the records passed so far are marked, and those of these records that repeat one.
+use mathlib.Core.Path.{◌≡◌, refl, sym, ◌∙◌, subst}
+use mathlib.Core.Bool.{Bool, ◌&&◌}
+use mathlib.Core.Logic.{⊎_elim}
+use mathlib.Core.List.{List}
+use Prim.Native.Nat.{ℕ, ◌+◌, ◌-◌, ◌≤◌}
+use native.Mathlib.Omega.{arith}
+use borrow.Author.Tests.{eq-eqb}
+use lib.Dec.{eqb}
+use lib.ListN.{length}
+use Rattle.pool.specs.Reading.{Entry}
+use Rattle.pool.specs.Walk.{entries_of}
+use Rattle.naming.specs.Records.{kind_at}
+use Rattle.rules.specs.Table.{repeats, element_key}
+use Rattle.chains.specs.Noted.{Noted, HitsMarked}
+use Rattle.chains.proofs.Noting.{noted-start, marked_start, marked-pass, marked-hit, marked-is}
+use Rattle.chains.proofs.mark_numbers.Given as goal
+
+-- record i is a device element with the number of an earlier one
+abbrev pub repeated : List ℕ → List Entry → ℕ → Bool
+repeated p es i = eqb (kind_at es i) 2 && repeats (element_key p es) (element_key p es i) i (length es)
+
+abbrev pub invariant-loop-i : goal.invariant-loop-i
+invariant-loop-i l =
+    (l.i ≤ l.count) × (length l.numbers ≡ length l.initial.numbers) × Noted 65536 (element_key l.p (entries_of l.p l.starts)) l.i l.numbers × (length l.marks ≡ length l.initial.marks) × HitsMarked (repeated l.p (entries_of l.p l.starts)) l.i l.marks
+
+abbrev pub decreases-loop-i : goal.decreases-loop-i
+decreases-loop-i l = l.count - l.i

@@ -1,0 +1,19 @@
+-- `log_writing::writing::kept_number` meets its contract: a field that is not marked has no bytes.
+use mathlib.Core.Path.{◌≡◌, refl, sym, ◌∙◌}
+use native.Mathlib.Omega.{arith}
+use borrow.Author.Tests.{eq-eqb, ne_eqb}
+use borrow.Author.Rules.{rules}
+use Rattle.time_log.specs.Layout.{width, part_width}
+use Rattle.time_log.proofs.Parts.{unmarked, marked, width_some}
+use Rattle.log_writing.proofs.writing.kept_number.Goals as goal
+
+pub returns-then-layout-k-eq0 : goal.returns-then-layout-k-eq0
+returns-then-layout-k-eq0 c =
+    let a = c.args in
+    rw (eq-eqb _ _ (unmarked a.layout a.k c.if-layout-k-eq0.true)) (refl, omega arith)
+
+pub returns : goal.returns
+returns c =
+    let a = c.args in
+    let e : part_width a.layout a.k ≡ width a.k = marked a.layout a.k c.if-layout-k-eq0.false in
+    rw (ne_eqb (part_width a.layout a.k) 0 (λ z. absurd (omega (arith, z, e, width_some a.k c.requires)))) (refl, omega arith)
