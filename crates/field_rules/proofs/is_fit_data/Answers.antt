@@ -1,0 +1,6 @@
+-- `field_rules::is_fit_data` meets its contract.
+use borrow.Author.Rules.{rules}
+use Rattle.field_rules.proofs.is_fit_data.Goals as goal
+
+pub returns : goal.returns
+returns c = rw (← c.is_bad_properties.ensures, ← c.is_bad_source.ensures, ← c.is_bad_triggers.ensures)

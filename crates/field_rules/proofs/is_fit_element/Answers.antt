@@ -1,0 +1,6 @@
+-- `field_rules::is_fit_element` meets its contract.
+use borrow.Author.Rules.{rules}
+use Rattle.field_rules.proofs.is_fit_element.Goals as goal
+
+pub returns : goal.returns
+returns c = rw (← c.is_bad_type.ensures, ← c.is_bad_number.ensures)

@@ -1,0 +1,6 @@
+-- `field_rules::put_property` meets its contract.
+use borrow.Author.Rules.{rules}
+use Rattle.field_rules.proofs.put_property.Goals as goal
+
+pub returns : goal.returns
+returns c = rw (← c.is_unsound.ensures) c.put_if.ensures
