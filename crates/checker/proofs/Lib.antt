@@ -1,4 +1,3 @@
 -- Laws that are not about a single function.
 pub mod Checked
 pub mod Tables
-pub mod Sizes
