@@ -1,0 +1,18 @@
+-- `queries::first_with` meets its contract.
+use mathlib.Core.Path.{sym, ◌∙◌}
+use Prim.Native.Nat.{◌-◌, ◌≤◌}
+use native.Mathlib.Omega.{arith}
+use lib.ListN.{length}
+use Rattle.pool.specs.Walk.{entries_of}
+use Rattle.pool.proofs.Starts.{entries-long, starts-few}
+use Rattle.naming.specs.Records.{id_at}
+use Rattle.naming.proofs.First.{Without, to_none}
+use Rattle.naming.proofs.Looking.{none_yet, none_more, first_found}
+use Rattle.naming.proofs.Starts.{id-read}
+use Rattle.queries.proofs.first_with.Given as goal
+
+abbrev pub invariant-loop-i : goal.invariant-loop-i
+invariant-loop-i l = (l.i ≤ length (entries_of l.p l.starts)) × Without (id_at (entries_of l.p l.starts)) l.id l.i
+
+abbrev pub decreases-loop-i : goal.decreases-loop-i
+decreases-loop-i l = length (entries_of l.p l.starts) - l.i
