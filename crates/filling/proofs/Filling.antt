@@ -10,13 +10,12 @@ use mathlib.Core.List.{List, [], ◌∷◌, ◌++◌}
 use lib.Dec.{lit<}
 use lib.ListN.{length, replicate, length-replicate}
 use seplogic.Ra.Ura.{Ura}
-use seplogic.Ra.TreeShare.{full_share}
-use mir.Syntax.{Name, Ty, named, w16, w64, ty_int, ty_array, ty_unit}
+use base.Fraction.{full_share}
+use mir.Syntax.{Callee, Ty, named, w16, w64, ty_int, ty_array, ty_unit}
 use mir.Val.{Val, vint}
 use base.Logic.{SProp, ent, sep, wand, ex, guard, emp, id⊢}
 use base.Fml.{Lft, GName, Share, Fml, feq, fsep, fat, flft, flent}
 use prog.Wp.{Calls}
-use ghost.Atoms.{meaning}
 use types.Logic.{Logic, sem}
 use contract.Monad.{fact}
 use sound.WpLaws.{FmC}
@@ -47,7 +46,7 @@ zero_is : Is u16 0 (vint w16 0 ∷ [])
 zero_is = (refl, lit< tt)
 
 -- what the code asks, as data: its list lies at l, and the table is n entries at (b, o)
-abbrev pub fill-script : Name → Name → Name → Name → ℕ → ℕ → Ty → Ty → List Val → List Val → List Val → ℕ → ℕ → ℕ → Script
+abbrev pub fill-script : Callee → Callee → Callee → Callee → ℕ → ℕ → Ty → Ty → List Val → List Val → List Val → ℕ → ℕ → ℕ → Script
 fill-script #core #count #fill #answer N l dt rt vs₀ vs ps b o n =
     lends (ty_array (ty_int w16) N) l (array w16 0 N) (queries #core (vs₀ ++ (vint w64 n ∷ slice_val (l, 0) N ∷ vs)) dt (λ w. queries #count (w ∷ []) (ty_int w64) (λ w₁.
     queries #fill (ps ++ (slice_val (l, 0) N ∷ w₁ ∷ slice_val (b, o) n ∷ [])) ty_unit (λ w₂. backs (ty_array (ty_int w16) N) l (λ v. queries #answer (w ∷ []) rt ends)))))
@@ -116,7 +115,7 @@ module _ {M : Type 1} {𝓤 : Ura M} (𝓛 : Logic 𝓤) (C : Calls 𝓤 𝓛.H)
   Post v = H.⇛ (ex 𝓤 (Gave v))
 
   -- what the code asks, where its list lies at l
-  module _ (#core #count #fill #answer : Name) (l : ℕ) where
+  module _ (#core #count #fill #answer : Callee) (l : ℕ) where
     abbrev list_at : Val → SProp 𝓤
     list_at v = H.at full_share (ty_array (ty_int w16) N) l 0 v
 
@@ -143,7 +142,7 @@ module _ {M : Type 1} {𝓤 : Ura M} (𝓛 : Logic 𝓤) (C : Calls 𝓤 𝓛.H)
   Right = (d : D.Denot) (w : WC) → length (zs-of w) ≡ length zeros → ΦC d w → Wants (zs-of w) (count_of d) × ((r : RT.Denot) → answers d r → ent 𝓤 (emp 𝓤) (Said r (exit-of w (after (zs-of w) (count_of d)))))
 
   module _ (fm : FmC 𝓤 H 𝓛.laws C) (big : Room u16 N) (room : Room R (length ys)) (makesD : Makes 𝓛 D (Is D)) (makesR : Makes 𝓛 RT (Is RT))
-      (typedD : (d : D.Denot) (w : Val) → Is D d (w ∷ []) → Typed dt w) (typedR : (r : RT.Denot) (w : Val) → Is RT r (w ∷ []) → Typed rt w) (#core #count #fill #answer : Name)
+      (typedD : (d : D.Denot) (w : Val) → Is D d (w ∷ []) → Typed dt w) (typedR : (r : RT.Denot) (w : Val) → Is RT r (w ∷ []) → Typed rt w) (#core #count #fill #answer : Callee)
       (orders : Orders) (core : (l ν : ℕ) (δ : GName) → ent 𝓤 (CorePre l ν δ) (C #core (vs₀ ++ (vint w64 (length ys) ∷ slice_val (l, 0) N ∷ vs)) (CorePost l ν δ)))
       (count : Triple 𝓤 (C #count) (Unary 𝓛 D usize (λ d n. n ≡ count_of d))) (answer : Triple 𝓤 (C #answer) (Unary 𝓛 D RT answers)) (fill : Fills 𝓛 R κ' q' b o γ ys Toks C #fill ps Copied Wants after) (right : Right) where
     zeros-length : length zeros ≡ N

@@ -8,7 +8,7 @@ use Prim.Native.Nat.{ℕ, suc, ◌+◌}
 use mathlib.Core.List.{List, [], ◌∷◌, ◌++◌}
 use lib.ListN.{length, replicate}
 use seplogic.Ra.Ura.{Ura}
-use mir.Syntax.{Name, Ty, Fn, Local, local, value_local, memory_slot, named, erased, mut, imm, w16, w64, ty_int, ty_unit, ty_ref, ty_array}
+use mir.Syntax.{Callee, Ty, Fn, Local, local, value_local, memory_slot, named, erased, mut, imm, w16, w64, ty_int, ty_unit, ty_ref, ty_array}
 use base.Logic.{SProp, ent, emp}
 use base.Fml.{ftrue}
 use prog.Wp.{Calls, Loops, WpFn}
@@ -68,15 +68,15 @@ module _ {M : Type 1} {𝓤 : Ura M} (𝓛 : Logic 𝓤) (R : RattleType) (D T :
       → Wants a.0.now zs (count_of d) a.1.0.now × ((r : T.row.Denot) → answers d r → ent 𝓤 (emp 𝓤) (Says κs a r (outs κs (over R m ss) (yes, (yes, ks)) a (tt, (after a.0.now zs (count_of d) a.1.0.now, ws)))))
 
   module _ (C : Calls 𝓤 H) (Λ : Loops 𝓤 H) (fm : FmC 𝓤 H 𝓛.laws C) (N : ℕ) (cs : (κs : Lfts (suc (suc m))) → Holds (types_at ss κs)) where
-    abbrev pub Coded-so : Fn → Name → Name → Name → Name → List Line → Type 0
+    abbrev pub Coded-so : Fn → Callee → Callee → Callee → Callee → List Line → Type 0
     Coded-so f #core #count #fill #answer ls = (κs : Lfts (suc (suc m))) (qs : Shares (suc (suc m))) (a : Args (passing (suc (suc m)) (over R m ss) T.row) κs)
         → Are-all 𝓛 C Λ fm R N D T (suc m) 0 tt (pool-slot ∷ []) (yes, tt) ss ks (λ κs. (slice-cell, tt)) cs (λ κs a. Asks a.0.now) Says (λ κs a zs. Needs zs a.0.now) (λ κs a d w zs ws. Tells κs a.0.now (length a.1.0.now) a.1.1 d zs (outs κs ss ks a.1.1 ws)) count_of answers (λ κs a. a.0) Wants after κs a
         → Coded 𝓛 C Λ fm R N D T (suc m) 0 tt (pool-slot ∷ []) (yes, tt) ss ks (λ κs. (slice-cell, tt)) cs (λ κs a. Asks a.0.now) Says (λ κs a zs. Needs zs a.0.now) (λ κs a d w zs ws. Tells κs a.0.now (length a.1.0.now) a.1.1 d zs (outs κs ss ks a.1.1 ws)) count_of answers (λ κs a. a.0) Wants after κs qs a f #core #count #fill #answer ls
 
-    abbrev pub Core-so : Name → Type 1
+    abbrev pub Core-so : Callee → Type 1
     Core-so = Core-known 𝓛 C Λ fm R N D T (suc m) 0 tt (pool-slot ∷ []) (yes, tt) ss ks (λ κs. (slice-cell, tt)) cs (λ κs a. Asks a.0.now) Says (λ κs a zs. Needs zs a.0.now) (λ κs a d w zs ws. Tells κs a.0.now (length a.1.0.now) a.1.1 d zs (outs κs ss ks a.1.1 ws)) count_of answers (λ κs a. a.0) Wants after
 
-    pub fills_first : (f : Fn) (#core #count #fill #answer : Name) (ls : List Line) → f.body ≡ code ls → Coded-so f #core #count #fill #answer ls → Room u16 N
+    pub fills_first : (f : Fn) (#core #count #fill #answer : Callee) (ls : List Line) → f.body ≡ code ls → Coded-so f #core #count #fill #answer ls → Room u16 N
         → ((κs : Lfts (suc (suc m))) → Tellss (types_at ss κs) (Ises (types_at ss κs)) (spells (types_at ss κs) (cs κs))) → ((p : List ℕ) → ent 𝓤 (Asks p) (fact 𝓤 (Needs (replicate N 0) p)))
         → Core-so #core
         → Triple 𝓤 (C #count) (Unary 𝓛 D.row usize (λ d n. n ≡ count_of d)) → Triple 𝓤 (C #answer) (Unary 𝓛 D.row T.row answers) → Triple 𝓤 (C #fill) (PoolFilling 𝓛 R Wants after) → Right

@@ -9,13 +9,12 @@ use mathlib.Core.List.{List, [], ◌∷◌, ◌++◌, map}
 use lib.Dec.{lit<}
 use lib.ListN.{length, replicate}
 use seplogic.Ra.Ura.{Ura}
-use seplogic.Ra.TreeShare.{full_share}
-use mir.Syntax.{Name, Ty, Fn, named, mut, w16, w64, ty_int, ty_array}
+use base.Fraction.{full_share}
+use mir.Syntax.{Callee, Ty, Fn, named, mut, w16, w64, ty_int, ty_array}
 use mir.Val.{Val, vint}
 use base.Logic.{SProp, ent, sep, wand, ex, emp, id⊢, via, comm∗, assoc∗, mono_l, mono_r, snd∗, wand_i, apply∗}
 use base.Fml.{Lft, GName, Fml, ftrue, feq, fsep}
 use prog.Wp.{Calls, Loops, WpFn}
-use ghost.Atoms.{meaning}
 use types.Logic.{Logic, sem}
 use contract.Monad.{fact, fact_use, top}
 use contract.Lifetimes.{Lfts, Shares, Within, lft_at, toks}
@@ -47,7 +46,7 @@ use Rattle.filling.proofs.Filling.{Orders, filled-as, fill-script}
 
 -- k parameters, of which the table is local t at the lifetime c; what stands before it and behind it is lent on by lines with i and j
 -- locals of their own, the covered function gets the locals `fore` and `aft`, and the filling `also`. An entry's type is σ
-abbrev pub lines : RattleType → Ty → ℕ → ℕ → ℕ → ℕ → ℕ → List Line → List Line → List ℕ → List ℕ → List ℕ → Name → Name → Name → Name → ℕ → List Line
+abbrev pub lines : RattleType → Ty → ℕ → ℕ → ℕ → ℕ → ℕ → List Line → List Line → List ℕ → List ℕ → List ℕ → Callee → Callee → Callee → Callee → ℕ → List Line
 lines R σ k t c i j before after fore aft also #core #count #fill #answer N =
     fills (1 + k) w16 0 N ∷ (before ++ (counts_of (3 + k + i) t (named c) mut (pointee R.written) ∷ slices (4 + k + i) (5 + k + i) (1 + k) N
     ∷ (after ++ (takes (1 + k) ∷ asks #core (fore ++ ((3 + k + i) ∷ (5 + k + i) ∷ aft)) (2 + k)
@@ -240,7 +239,7 @@ module _ {M : Type 1} {𝓤 : Ura M} (𝓛 : Logic 𝓤) (C : Calls 𝓤 𝓛.H)
           via 𝓤 (sep 𝓤 P (sep 𝓤 Q Z)) (swaps 𝓛 Q P Z) (lasts-joined 𝓛 κs bs us ks₀ (yes, ks) a (w₀ w) (zs, (w₁ w).1.1));
     }
 
-    abbrev Asked : Name → Name → Name → Name → ℕ → Script
+    abbrev Asked : Callee → Callee → Callee → Callee → ℕ → Script
     Asked #core #count #fill #answer l = fill-script #core #count #fill #answer N l D.mir T.mir vs₀ vs₁ ps t.ref_ptr.0 t.ref_ptr.1 (length t.now)
 
     abbrev Entry : SProp 𝓤
@@ -249,21 +248,21 @@ module _ {M : Type 1} {𝓤 : Ura M} (𝓛 : Logic 𝓤) (C : Calls 𝓤 𝓛.H)
     abbrev Held : List Cell
     Held = held (types_at (bs ++ us) κs) (all_held κs) a
 
-    filling : (#fill : Name) → Triple 𝓤 (C #fill) (PoolFilling 𝓛 R Wants after) → Fills 𝓛 R (lft_at (suc n) (suc j) ok κs) (share_at (suc n) (suc j) ok qs) t.ref_ptr.0 t.ref_ptr.1 t.ghost_name t.now Toks C #fill ps Copied wants-so filled-so
+    filling : (#fill : Callee) → Triple 𝓤 (C #fill) (PoolFilling 𝓛 R Wants after) → Fills 𝓛 R (lft_at (suc n) (suc j) ok κs) (share_at (suc n) (suc j) ok qs) t.ref_ptr.0 t.ref_ptr.1 t.ghost_name t.now Toks C #fill ps Copied wants-so filled-so
     filling = by-pool 𝓛 R (lft_at n j ok κs.1) (share_at n j ok qs.1) t.ref_ptr.0 t.ref_ptr.1 t.ghost_name t.now Toks C fm κs.0 qs.0 (pool κs a) (toks-but 𝓛 n j ok κs.1 qs.1) (id⊢ 𝓤 Toks) (id⊢ 𝓤 Toks) Wants after
 
     -- what a function's own code owes: that its locals are of the types that the lines need, and that the lines ask what is asked here
-    abbrev pub Coded : Fn → Name → Name → Name → Name → List Line → Type 0
+    abbrev pub Coded : Fn → Callee → Callee → Callee → Callee → List Line → Type 0
     Coded f #core #count #fill #answer ls = Everywhere 𝓤 H f.locals (λ E. Passed 𝓤 H E Held × Fine 𝓤 H E ls (begun 𝓤 H E Held) × ((l : ℕ) × (Asked #core #count #fill #answer l ≡ script 𝓤 H E ls (begun 𝓤 H E Held))))
 
-  abbrev pub Core-known : Name → Type 1
+  abbrev pub Core-known : Callee → Type 1
   Core-known #core = (κs : Lfts (suc n)) (qs : Shares (suc n)) (a : Args S κs) (l ν : ℕ) (δ : GName)
       → ent 𝓤 (Core-pre κs qs a l ν δ) (C #core (vs₀ κs qs a ++ (vint w64 (length (t κs qs a).now) ∷ slice_val (l, 0) N ∷ vs₁ κs qs a)) (Core-post κs qs a l ν δ))
 
   abbrev pub Are-all : (κs : Lfts (suc n)) → Args S κs → Type 0
   Are-all κs a = Are (types_at (bs ++ us) κs) (Ises (types_at (bs ++ us) κs)) a (valss (types_at (bs ++ us) κs) (spells (types_at (bs ++ us) κs) (all_held κs)) a)
 
-  pub fills-table : (f : Fn) (#core #count #fill #answer : Name) (ls : List Line) → f.body ≡ code ls
+  pub fills-table : (f : Fn) (#core #count #fill #answer : Callee) (ls : List Line) → f.body ≡ code ls
       → ((κs : Lfts (suc n)) (qs : Shares (suc n)) (a : Args S κs) → Are-all κs a → Coded κs qs a f #core #count #fill #answer ls)
       → Room u16 N → ((κs : Lfts (suc n)) → Tellss (types_at (bs ++ us) κs) (Ises (types_at (bs ++ us) κs)) (spells (types_at (bs ++ us) κs) (all_held κs)))
       → ((κs : Lfts (suc n)) (a : Args S κs) → ent 𝓤 (Asks κs a) (fact 𝓤 (Needs κs a (replicate N 0))))
