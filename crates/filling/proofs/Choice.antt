@@ -3,22 +3,20 @@
 --     Asked            a contract, by what is asked
 --     picks            such a function meets it
 -- Assumes `Logic`.
-use mathlib.Core.Path.{◌≡◌, refl, sym, subst}
+use mathlib.Core.Path.{◌≡◌, sym, subst}
 use Prim.Native.Nat.{ℕ, ◌≤◌}
-use mathlib.Core.Bool.{not}
 use mathlib.Core.List.{List, [], ◌∷◌, map}
 use lib.Dec.{T, leb, leb→le}
-use lib.ListN.{length}
 use seplogic.Ra.Ura.{Ura}
 use mir.Syntax.{Callee, Ty, Fn, Lifetime, Mutability, w64, ty_ref}
 use mir.Val.{Val, Fits, vint, vbool, has_ty}
-use base.Logic.{SProp, ent, sep, ex, guard, emp, id⊢, via, mono_r, mono_l, comm∗, fst∗, wand, wand_i, apply∗}
-use prog.Wp.{Env, Calls, Loops, WpFn}
+use base.Logic.{SProp, ent, sep, ex, guard, emp, id⊢, via, mono_r, mono_l, comm∗, wand, wand_i, apply∗}
+use prog.Wp.{Calls, Loops, WpFn}
 use types.Logic.{Logic, sem}
 use contract.Monad.{fact, fact_i}
 use contract.Lifetimes.{Lfts, Shares, toks}
 use sound.WpLaws.{FmC}
-use types.Kit.{‵, raw, ◌⊛◌, some, later, Sq, upd, ◌$◌, ◌∵◌, !, qed, move, drop, use1, split, join, pick, frame, await, done, check, show, updating, now as at_once}
+use types.Kit.{‵, raw, ◌⊛◌, some, later, ◌$◌, ◌∵◌, !, qed, move, use1, split, join, pick, await, done, check, show, updating, now as at_once}
 use denote.RattleType.{RattleType, flat, owns}
 use denote.Laws.{Is, Are, Ises, valss, shows, Tellss}
 use denote.Slice.{slice_ty}

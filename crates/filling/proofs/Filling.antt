@@ -14,7 +14,7 @@ use base.Fraction.{full_share}
 use mir.Syntax.{Callee, Ty, named, w16, w64, ty_int, ty_array, ty_unit}
 use mir.Val.{Val, vint}
 use base.Logic.{SProp, ent, sep, wand, ex, guard, emp, id⊢}
-use base.Fml.{Lft, GName, Share, Fml, Incl-refl, feq, fsep, fat, flft, flent}
+use base.Fml.{Lft, GName, Share, Fml, Incl-refl, fsep, fat, flft, flent}
 use prog.Wp.{Calls}
 use types.Logic.{Logic, sem}
 use contract.Monad.{fact}
@@ -31,7 +31,7 @@ use denote.Builtin.{u16, usize, unit}
 use denote.Array.{Array, array_val, Array-Makes}
 use denote.ArrayMemory.{Array-apart, Array-whole}
 use denote.Ref.{Bor, MutBor}
-use denote.Slice.{slice_val, MutSlice, Room, finally}
+use denote.Slice.{slice_val, MutSlice, Room}
 use denote.Lend.{Held, lends_slice, slice_back, lends_shr_slice}
 use denote.Copied.{uint_Copied}
 use denote.Index.{row, whole_in, whole_out}

@@ -4,7 +4,7 @@
 --     fills_first      the function meets its contract
 -- Assumes `Logic`.
 use mathlib.Core.Path.{◌≡◌}
-use Prim.Native.Nat.{ℕ, suc, ◌+◌}
+use Prim.Native.Nat.{ℕ, suc}
 use mathlib.Core.List.{List, [], ◌∷◌, ◌++◌}
 use lib.ListN.{length, replicate}
 use seplogic.Ra.Ura.{Ura}

@@ -13,13 +13,12 @@ use base.Fraction.{full_share}
 use mir.Syntax.{Callee, Ty, Fn, named, mut, w16, w64, ty_int, ty_array}
 use mir.Val.{Val, vint}
 use base.Logic.{SProp, ent, sep, wand, ex, emp, id⊢, via, comm∗, assoc∗, mono_l, mono_r, snd∗, wand_i, apply∗}
-use base.Fml.{Lft, GName, Fml, ftrue, fsep}
+use base.Fml.{GName, Fml, ftrue, fsep}
 use prog.Wp.{Calls, Loops, WpFn}
 use types.Logic.{Logic, sem}
-use contract.Monad.{fact, fact_use, top}
+use contract.Monad.{fact}
 use contract.Lifetimes.{Lfts, Shares, Within, lft_at, toks}
 use sound.WpLaws.{FmC}
-use types.Kit.{‵, ◌⊛◌, ◌$◌, ◌∵◌, !, qed, move, use1, split, fsplit, fjoin, done}
 use denote.RattleType.{RattleType, Denots, Valss, owns, flat}
 use denote.Memory.{pointee}
 use denote.Laws.{Are, Ises, valss, Tellss}
