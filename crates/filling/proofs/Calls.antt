@@ -1,6 +1,7 @@
 -- The calls of a function over the table: of a covered function of one value, and of the one that fills the table.
 --     asking           a call, where what is to hold of its result is an assertion
 --     unary-call       the call of a function of one value
+--     slice_left       what is said at exit of a slice that is lent by `&mut`.        handed-back      the same without the length
 --     Fills            what is asked of the function that fills the table. `by-pool`: a function of the pool, the list, a count and the table is one
 -- Assumes `Logic`.
 use mathlib.Core.Path.{◌≡◌, refl}
