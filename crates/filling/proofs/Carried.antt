@@ -3,7 +3,7 @@
 --     Carried                      a type's row, its type in MIR, and these laws
 --     struct-of, enum-of, uint-of  a declared struct, a declared enum and a number are such types
 -- Assumes `Logic`.
-use mathlib.Core.List.{List, [], ◌∷◌}
+use mathlib.Core.List.{[], ◌∷◌}
 use seplogic.Ra.Ura.{Ura}
 use mir.Syntax.{Ty, Width, ty_int}
 use mir.Val.{Val}

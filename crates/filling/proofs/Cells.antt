@@ -9,7 +9,7 @@ use mathlib.Core.List.{List, [], ◌∷◌}
 use lib.Dec.{T}
 use lib.ListN.{get_or}
 use seplogic.Ra.Ura.{Ura}
-use seplogic.Ra.TreeShare.{full_share}
+use base.Fraction.{full_share}
 use mir.Syntax.{Ty, Lifetime, Mutability, place, field, deref, copy, w64, ty_ref}
 use mir.Val.{Val, vunit, vint, vptr, WT, has_ty}
 use base.Logic.{SProp, ent, sep, never, id⊢, via, mono_l, snd∗, emp∗, emp, never_e}

@@ -3,23 +3,20 @@
 --     Asked            a contract, by what is asked
 --     picks            such a function meets it
 -- Assumes `Logic`.
-use mathlib.Core.Path.{◌≡◌, refl, sym, subst}
+use mathlib.Core.Path.{◌≡◌, sym, subst}
 use Prim.Native.Nat.{ℕ, ◌≤◌}
-use mathlib.Core.Bool.{not}
 use mathlib.Core.List.{List, [], ◌∷◌, map}
 use lib.Dec.{T, leb, leb→le}
-use lib.ListN.{length}
 use seplogic.Ra.Ura.{Ura}
-use mir.Syntax.{Name, Ty, Fn, Lifetime, Mutability, w64, ty_ref}
+use mir.Syntax.{Callee, Ty, Fn, Lifetime, Mutability, w64, ty_ref}
 use mir.Val.{Val, Fits, vint, vbool, has_ty}
-use base.Logic.{SProp, ent, sep, ex, guard, emp, id⊢, via, mono_r, mono_l, comm∗, fst∗, wand, wand_i, apply∗}
-use prog.Wp.{Env, Calls, Loops, WpFn}
-use ghost.Atoms.{meaning}
+use base.Logic.{SProp, ent, sep, ex, guard, emp, id⊢, via, mono_r, mono_l, comm∗, wand, wand_i, apply∗}
+use prog.Wp.{Calls, Loops, WpFn}
 use types.Logic.{Logic, sem}
 use contract.Monad.{fact, fact_i}
 use contract.Lifetimes.{Lfts, Shares, toks}
 use sound.WpLaws.{FmC}
-use types.Kit.{‵, raw, ◌⊛◌, some, later, Sq, upd, ◌$◌, ◌∵◌, !, qed, move, drop, use1, split, join, pick, frame, await, done, check, show, updating, now as at_once}
+use types.Kit.{‵, raw, ◌⊛◌, some, later, ◌$◌, ◌∵◌, !, qed, move, use1, split, join, pick, await, done, check, show, updating, now as at_once}
 use denote.RattleType.{RattleType, flat, owns}
 use denote.Laws.{Is, Are, Ises, valss, shows, Tellss}
 use denote.Slice.{slice_ty}
@@ -72,11 +69,11 @@ module _ {M : Type 1} {𝓤 : Ura M} (𝓛 : Logic 𝓤) (X : Carried 𝓛) (n :
       abbrev Post : Val → SProp 𝓤
       Post v = H.⇛ (ex 𝓤 (Gave v))
 
-      abbrev Handed : Name → Script
+      abbrev Handed : Callee → Script
       Handed #f = queries #f (map value Held) X.mir ends
 
       -- one of the two answers for the function
-      answers-for : (#f : Name) (Asks : (κs : Lfts n) → Args S κs → SProp 𝓤) → Triple 𝓤 (C #f) (Asked Asks) → ent 𝓤 (emp 𝓤) (Asks κs a) → ent 𝓤 (sep 𝓤 Given-all (emp 𝓤)) (meaning 𝓤 H C Post (Handed #f))
+      answers-for : (#f : Callee) (Asks : (κs : Lfts n) → Args S κs → SProp 𝓤) → Triple 𝓤 (C #f) (Asked Asks) → ent 𝓤 (emp 𝓤) (Asks κs a) → ent 𝓤 (sep 𝓤 Given-all (emp 𝓤)) (meaning 𝓤 H C Post (Handed #f))
       unfolding meaning
       answers-for #f Asks known met = let vss : Vals S κs = valss (types_at us κs) (spells (types_at us κs) (cs κs)) a in
           qed 𝓛 (raw (sep 𝓤 Given-all (emp 𝓤)) ∷ []) ∵ use1 𝓛 (raw (sep 𝓤 Given-all (Asks κs a))) (mono_r 𝓤 Given-all met) $ updating ! $ at_once ! $
@@ -85,14 +82,14 @@ module _ {M : Type 1} {𝓤 : Ura M} (𝓛 : Logic 𝓤) (X : Carried 𝓛) (n :
           at_once {P = guard 𝓤 (Typed X.mir v) (Post v)} ! $ check {P = Post v} ! (X.typed r v is) $ updating {P = ex 𝓤 (Gave v)} ! $ at_once {P = ex 𝓤 (Gave v)} ! $ show ! (Gave v) r $ move ! (1 ∷ 0 ∷ []) $ join ! $ done !)))
 
       -- what the function's own code owes: its locals are of the types that the lines need, and each code hands the parameters on
-      abbrev pub Hands-on : Fn → Name → Name → ℕ → ℕ → ℕ → ℕ → Lifetime → Mutability → Ty → List Line → List Line → ℕ → ℕ → ℕ → Type 0
+      abbrev pub Hands-on : Fn → Callee → Callee → ℕ → ℕ → ℕ → ℕ → Lifetime → Mutability → Ty → List Line → List Line → ℕ → ℕ → ℕ → Type 0
       Hands-on f #short #long limit d c i ℓ μ τ ls₁ ls₂ b o k = Everywhere 𝓤 H f.locals (λ E.
           let cs : List Cell = begun 𝓤 H E Held in let cs' : List Cell = put cs d (has (vint w64 k)) in let cs'' : List Cell = put cs' c (has (vbool (leb k limit))) in
           Passed 𝓤 H E Held × (cell cs i ≡ slice b o k) × (ty 𝓤 H E i ≡ slice_ty (ty_ref ℓ μ τ)) × Ready (cell cs d) × T (has_ty (ty 𝓤 H E d) (vint w64 k)) × (cell cs' d ≡ has (vint w64 k)) × Ready (cell cs' c) × T (has_ty (ty 𝓤 H E c) (vbool (leb k limit))) × (cell cs'' c ≡ has (vbool (leb k limit)))
           × Fine 𝓤 H E ls₁ cs'' × Fine 𝓤 H E ls₂ cs'' × (Handed #short ≡ script 𝓤 H E ls₁ cs'') × (Handed #long ≡ script 𝓤 H E ls₂ cs''))
 
     module _ (C : Calls 𝓤 H) (Λ : Loops 𝓤 H) (fm : FmC 𝓤 H 𝓛.laws C) (cs : (κs : Lfts n) → Holds (types_at us κs)) where
-      pub picks : (f : Fn) (#short #long : Name) (limit d c i : ℕ) (ℓ : Lifetime) (μ : Mutability) (τ : Ty) (ls₁ ls₂ : List Line) (at : (κs : Lfts n) → Args S κs → ℕ × ℕ × ℕ) → f.body ≡ choice d c i limit ls₁ ls₂ → Fits w64 limit
+      pub picks : (f : Fn) (#short #long : Callee) (limit d c i : ℕ) (ℓ : Lifetime) (μ : Mutability) (τ : Ty) (ls₁ ls₂ : List Line) (at : (κs : Lfts n) → Args S κs → ℕ × ℕ × ℕ) → f.body ≡ choice d c i limit ls₁ ls₂ → Fits w64 limit
           → ((κs : Lfts n) → Tellss (types_at us κs) (Ises (types_at us κs)) (spells (types_at us κs) (cs κs)))
           → ((κs : Lfts n) (qs : Shares n) (a : Args S κs) → Are (types_at us κs) (Ises (types_at us κs)) a (valss (types_at us κs) (spells (types_at us κs) (cs κs)) a) → Hands-on C Λ fm cs κs qs a f #short #long limit d c i ℓ μ τ ls₁ ls₂ (at κs a).0 (at κs a).1 (at κs a).2)
           → Triple 𝓤 (C #short) (Asked (λ κs a. fact 𝓤 ((at κs a).2 ≤ limit))) → Triple 𝓤 (C #long) (Asked (λ κs a. emp 𝓤))

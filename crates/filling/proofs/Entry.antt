@@ -8,13 +8,12 @@ use mathlib.Core.Bool.{not}
 use mathlib.Core.List.{List, [], ◌∷◌, map}
 use lib.Dec.{T, leb}
 use seplogic.Ra.Ura.{Ura}
-use seplogic.Ra.TreeShare.{full_share}
+use base.Fraction.{full_share}
 use mir.Syntax.{Ty, Lifetime, Mutability, Body, Local, Fn, place, field, copy, int_big, rv_opd, op2, le, unsigned, assign, cond, skip, seq, w64, ty_ref}
 use mir.Val.{Val, vint, vbool, WT, Fits, has_ty}
 use base.Logic.{SProp, ent, sep, wand, via, emp, emp∗, wand_i, all_i}
 use base.Fml.{fsep, fat, froom, fdies}
 use prog.Wp.{Heap, Env, Calls, Loops, WpFn, Wp, ty_of, alloc, pass, params, at_return, after_seq}
-use ghost.Atoms.{meaning}
 use types.Logic.{Logic, sem}
 use sound.WpLaws.{FmC}
 use types.Kit.{‵, raw, Sq, runs, at_ret, any_q, ◌$◌, ◌∵◌, !, qed, by, move, use1, fsplit, fjoin, frame, done, assume, check}

@@ -10,13 +10,12 @@ use mathlib.Core.List.{List, [], ◌∷◌, ◌++◌}
 use lib.Dec.{lit<}
 use lib.ListN.{length, replicate, length-replicate}
 use seplogic.Ra.Ura.{Ura}
-use seplogic.Ra.TreeShare.{full_share}
-use mir.Syntax.{Name, Ty, named, w16, w64, ty_int, ty_array, ty_unit}
+use base.Fraction.{full_share}
+use mir.Syntax.{Callee, Ty, named, w16, w64, ty_int, ty_array, ty_unit}
 use mir.Val.{Val, vint}
 use base.Logic.{SProp, ent, sep, wand, ex, guard, emp, id⊢}
-use base.Fml.{Lft, GName, Share, Fml, feq, fsep, fat, flft, flent}
+use base.Fml.{Lft, GName, Share, Fml, Incl-refl, fsep, fat, flft, flent}
 use prog.Wp.{Calls}
-use ghost.Atoms.{meaning}
 use types.Logic.{Logic, sem}
 use contract.Monad.{fact}
 use sound.WpLaws.{FmC}
@@ -31,9 +30,10 @@ use denote.Plain.{uint_Makes, uint_Lawful, Nothing-Lawful}
 use denote.Builtin.{u16, usize, unit}
 use denote.Array.{Array, array_val, Array-Makes}
 use denote.ArrayMemory.{Array-apart, Array-whole}
-use denote.Ref.{MutBor}
-use denote.Slice.{slice_val, MutSlice, Room, finally}
+use denote.Ref.{Bor, MutBor}
+use denote.Slice.{slice_val, MutSlice, Room}
 use denote.Lend.{Held, lends_slice, slice_back, lends_shr_slice}
+use denote.Copied.{uint_Copied}
 use denote.Index.{row, whole_in, whole_out}
 use denote.Steps.{only, owned, facts, heard}
 use denote.Triple.Statement.{Triple}
@@ -41,13 +41,13 @@ use borrow.Table.OneValue.{part_in, part_out}
 use Rattle.filling.proofs.Local.{repeats-are}
 use Rattle.filling.proofs.Cells.{Typed}
 use Rattle.filling.proofs.Straight.{array, Script, ends, lends, backs, queries, meaning}
-use Rattle.filling.proofs.Calls.{Unary, asking, unary-call, Fills, FillPre, FillPost, ROwn}
+use Rattle.filling.proofs.Calls.{Unary, asking, unary-call, slice_left, handed-back, Fills, FillPre, FillPost, ROwn}
 
 zero_is : Is u16 0 (vint w16 0 ∷ [])
 zero_is = (refl, lit< tt)
 
 -- what the code asks, as data: its list lies at l, and the table is n entries at (b, o)
-abbrev pub fill-script : Name → Name → Name → Name → ℕ → ℕ → Ty → Ty → List Val → List Val → List Val → ℕ → ℕ → ℕ → Script
+abbrev pub fill-script : Callee → Callee → Callee → Callee → ℕ → ℕ → Ty → Ty → List Val → List Val → List Val → ℕ → ℕ → ℕ → Script
 fill-script #core #count #fill #answer N l dt rt vs₀ vs ps b o n =
     lends (ty_array (ty_int w16) N) l (array w16 0 N) (queries #core (vs₀ ++ (vint w64 n ∷ slice_val (l, 0) N ∷ vs)) dt (λ w. queries #count (w ∷ []) (ty_int w64) (λ w₁.
     queries #fill (ps ++ (slice_val (l, 0) N ∷ w₁ ∷ slice_val (b, o) n ∷ [])) ty_unit (λ w₂. backs (ty_array (ty_int w16) N) l (λ v. queries #answer (w ∷ []) rt ends)))))
@@ -63,7 +63,7 @@ module _ {M : Type 1} {𝓤 : Ura M} (𝓛 : Logic 𝓤) (C : Calls 𝓤 𝓛.H)
     -- what the parameters own; of the covered function's the list's place and length stand for the table
     (Xs OF : Fml) (OC : ℕ → ℕ → GName → Fml)
     -- what is said of each at exit
-    (WC WF : Type 0) (zs-of : WC → List ℕ) (others : WC → Fml) (exit-of : WC → List R.Denot → WF) (leftsC : GName → WC → Fml) (leftsF : WF → Fml)
+    (WC WF : Type 0) (zs-of : WC → List ℕ) (others : WC → Fml) (exit-of : WC → List R.Denot → WF) (leftsC : ℕ → ℕ → GName → WC → Fml) (leftsF : WF → Fml)
     -- what the covered function answers, and what of it is the function's own answer
     (D RT : RattleType) (dt rt : Ty) (ReqC : List ℕ → SProp 𝓤) (ΦC : D.Denot → WC → Type 0) (count_of : D.Denot → ℕ) (answers : D.Denot → RT.Denot → Type 0) (Said : RT.Denot → WF → SProp 𝓤) where
   open 𝓛 use {H, A}
@@ -80,6 +80,9 @@ module _ {M : Type 1} {𝓤 : Ura M} (𝓛 : Logic 𝓤) (C : Calls 𝓤 𝓛.H)
   abbrev rows : ℕ → GName → List ℕ → MutBor (List ℕ)
   rows l δ zs = record { ref_ptr = (l, 0); ghost_name = δ; now = zs }
 
+  abbrev shared-rows : ℕ → List ℕ → Bor (List ℕ)
+  shared-rows l zs = record { ref_ptr = (l, 0); now = zs }
+
   abbrev Lent : ℕ → ℕ → GName → Fml
   Lent l ν δ = (MutSlice (named 1) (ν ∷ []) u16).own_val (rows l δ zeros) (slice_val (l, 0) N ∷ [])
 
@@ -92,15 +95,15 @@ module _ {M : Type 1} {𝓤 : Ura M} (𝓛 : Logic 𝓤) (C : Calls 𝓤 𝓛.H)
     pub copied : ent 𝓤 (sem 𝓛 Xs) (sem 𝓛 (fsep Copied Xs))
     pub owns-out : ent 𝓤 (sem 𝓛 OF) (sem 𝓛 (fsep TOwn Xs))
     pub core-owns-in : (l ν : ℕ) (δ : GName) → ent 𝓤 (sem 𝓛 (fsep (fsep (usize.own_val (length ys) (vint w64 (length ys) ∷ [])) (Lent l ν δ)) Xs)) (sem 𝓛 (OC l ν δ))
-    pub core-lefts-out : (δ : GName) (w : WC) → ent 𝓤 (sem 𝓛 (leftsC δ w)) (sem 𝓛 (fsep (fsep (finally u16 δ (zs-of w)) (feq ℕ (length (zs-of w)) (length zeros))) (others w)))
-    pub lefts_in : (w : WC) (us : List R.Denot) → ent 𝓤 (sem 𝓛 (fsep (fsep (finally R γ us) (feq ℕ (length us) (length ys))) (others w))) (sem 𝓛 (leftsF (exit-of w us)))
+    pub core-lefts-out : (l ν : ℕ) (δ : GName) (w : WC) → ent 𝓤 (sem 𝓛 (leftsC l ν δ w)) (sem 𝓛 (fsep (slice_left u16 (ν ∷ []) l 0 δ (length zeros) (zs-of w)) (others w)))
+    pub lefts_in : (w : WC) (us : List R.Denot) → ent 𝓤 (sem 𝓛 (fsep (slice_left R κ' b o γ (length ys) us) (others w))) (sem 𝓛 (leftsF (exit-of w us)))
 
   -- the covered function at a list that is lent at l
   abbrev pub CorePre : ℕ → ℕ → GName → SProp 𝓤
   CorePre l ν δ = sep 𝓤 (sep 𝓤 (TC ν) (sem 𝓛 (OC l ν δ))) (ReqC zeros)
 
   abbrev pub CorePost : ℕ → ℕ → GName → Val → SProp 𝓤
-  CorePost l ν δ v = H.⇛ (ex 𝓤 (λ (d : D.Denot). sep 𝓤 (sep 𝓤 (TC ν) (sem 𝓛 (D.own_val d (v ∷ [])))) (ex 𝓤 (λ (w : WC). sep 𝓤 (sem 𝓛 (leftsC δ w)) (fact 𝓤 (ΦC d w))))))
+  CorePost l ν δ v = H.⇛ (ex 𝓤 (λ (d : D.Denot). sep 𝓤 (sep 𝓤 (TC ν) (sem 𝓛 (D.own_val d (v ∷ [])))) (ex 𝓤 (λ (w : WC). sep 𝓤 (sem 𝓛 (leftsC l ν δ w)) (fact 𝓤 (ΦC d w))))))
 
   -- the function itself
   abbrev pub Pre : SProp 𝓤
@@ -116,7 +119,7 @@ module _ {M : Type 1} {𝓤 : Ura M} (𝓛 : Logic 𝓤) (C : Calls 𝓤 𝓛.H)
   Post v = H.⇛ (ex 𝓤 (Gave v))
 
   -- what the code asks, where its list lies at l
-  module _ (#core #count #fill #answer : Name) (l : ℕ) where
+  module _ (#core #count #fill #answer : Callee) (l : ℕ) where
     abbrev list_at : Val → SProp 𝓤
     list_at v = H.at full_share (ty_array (ty_int w16) N) l 0 v
 
@@ -143,7 +146,7 @@ module _ {M : Type 1} {𝓤 : Ura M} (𝓛 : Logic 𝓤) (C : Calls 𝓤 𝓛.H)
   Right = (d : D.Denot) (w : WC) → length (zs-of w) ≡ length zeros → ΦC d w → Wants (zs-of w) (count_of d) × ((r : RT.Denot) → answers d r → ent 𝓤 (emp 𝓤) (Said r (exit-of w (after (zs-of w) (count_of d)))))
 
   module _ (fm : FmC 𝓤 H 𝓛.laws C) (big : Room u16 N) (room : Room R (length ys)) (makesD : Makes 𝓛 D (Is D)) (makesR : Makes 𝓛 RT (Is RT))
-      (typedD : (d : D.Denot) (w : Val) → Is D d (w ∷ []) → Typed dt w) (typedR : (r : RT.Denot) (w : Val) → Is RT r (w ∷ []) → Typed rt w) (#core #count #fill #answer : Name)
+      (typedD : (d : D.Denot) (w : Val) → Is D d (w ∷ []) → Typed dt w) (typedR : (r : RT.Denot) (w : Val) → Is RT r (w ∷ []) → Typed rt w) (#core #count #fill #answer : Callee)
       (orders : Orders) (core : (l ν : ℕ) (δ : GName) → ent 𝓤 (CorePre l ν δ) (C #core (vs₀ ++ (vint w64 (length ys) ∷ slice_val (l, 0) N ∷ vs)) (CorePost l ν δ)))
       (count : Triple 𝓤 (C #count) (Unary 𝓛 D usize (λ d n. n ≡ count_of d))) (answer : Triple 𝓤 (C #answer) (Unary 𝓛 D RT answers)) (fill : Fills 𝓛 R κ' q' b o γ ys Toks C #fill ps Copied Wants after) (right : Right) where
     zeros-length : length zeros ≡ N
@@ -156,12 +159,12 @@ module _ {M : Type 1} {𝓤 : Ura M} (𝓛 : Logic 𝓤) (C : Calls 𝓤 𝓛.H)
     AR = Array u16 N
 
     answered : (l : ℕ) (d : D.Denot) (w : Val) (e : WC) (us : List R.Denot) → Is D d (w ∷ []) → length us ≡ length ys → ((r : RT.Denot) → answers d r → ent 𝓤 (emp 𝓤) (Said r (exit-of e us)))
-        → Sq 𝓛 (‵ (flft κ' q') ∷ raw Toks ∷ ‵ (finally R γ us) ∷ ‵ (others e) ∷ []) (prop (Answered #core #count #fill #answer l w))
+        → Sq 𝓛 (‵ (flft κ' q') ∷ raw Toks ∷ ‵ (handed-back R κ' b o γ (length ys) us) ∷ ‵ (others e) ∷ []) (prop (Answered #core #count #fill #answer l w))
     answered l d w e us is same so =
         unary-call 𝓛 C fm ! #answer D RT answers (λ v. guard 𝓤 (Typed rt v) (Post v)) makesD answer d w is (λ v r is' φ. at_once {P = guard 𝓤 (Typed rt v) (Post v)} ! $ check {P = Post v} ! (typedR r v is') $
         updating {P = ex 𝓤 (Gave v)} ! $ at_once {P = ex 𝓤 (Gave v)} ! $ show ! (Gave v) r $
         use2 𝓛 (raw TF) orders.tokens-in $ owned ! RT (Is RT) makesR r (v ∷ []) is' $ move ! (1 ∷ 0 ∷ []) $ join ! $ frame ! $ show ! (Ended r) (exit-of e us) $
-        feq_i ! ℕ (length us) (length ys) same $ move ! (1 ∷ 0 ∷ []) $ fjoin ! $ fjoin ! $ use1 𝓛 (‵ (leftsF (exit-of e us))) (orders.lefts_in e us) $ use0 𝓛 (raw (Said r (exit-of e us))) (so r φ) $ move ! (1 ∷ 0 ∷ []) $ done !)
+        fsplit ! $ feq_i ! ℕ (length us) (length ys) same $ move ! (1 ∷ 0 ∷ []) $ fjoin ! $ fjoin ! $ fjoin ! $ use1 𝓛 (‵ (leftsF (exit-of e us))) (orders.lefts_in e us) $ use0 𝓛 (raw (Said r (exit-of e us))) (so r φ) $ move ! (1 ∷ 0 ∷ []) $ done !)
 
     -- ---- the table is filled
     abbrev After : ℕ → Val → Val → SProp 𝓤
@@ -178,11 +181,12 @@ module _ {M : Type 1} {𝓤 : Ura M} (𝓛 : Logic 𝓤) (C : Calls 𝓤 𝓛.H)
         → Sq 𝓛 (Held-all l x zs) (upd (C #fill (ps ++ (slice_val (l, 0) (length zs) ∷ vint w64 n ∷ slice_val (b, o) (length ys) ∷ [])) (After l w)))
     fill-called l d w x zs n is e fits wanted so =
         lft_new ! tt (λ ν. move ! (5 ∷ []) $
-        use1 𝓛 (later (some (λ (δ : GName). ‵ (ROwn (ν ∷ []) (rows l δ zs)) ⊛ ‵ (flent (ν ∷ []) ((arr_parts (shares u16) (length zs)).part full_share zs l 0))))) (lends_shr_slice 𝓛 u16 (named 0) (ν ∷ []) full_share zs l 0 (subst (Room u16) (sym e) long)) $ await ! tt $ pick ! (λ δ. split ! $
+        use2 𝓛 (later ((‵ (ROwn (ν ∷ []) (shared-rows l zs)) ⊛ ‵ (flent (ν ∷ []) ((arr_parts (shares u16) (length zs)).part full_share zs l 0))) ⊛ ‵ (flft (ν ∷ []) full_share)))
+        (lends_shr_slice 𝓛 u16 (named 0) (ν ∷ []) full_share zs l 0 (subst (Room u16) (sym e) long) (ν ∷ []) ((uint_Copied 𝓛 w16).shares full_share (ν ∷ [])) ((ν ∷ [], full_share) ∷ []) (Incl-refl (ν ∷ [])) (Incl-refl (ν ∷ []))) $ await ! tt $ split ! $ split ! $
         -- [the list's; the lender's part; ν's token; κ''s; Toks; the table's; the others; what is copied]
-        move ! (2 ∷ 3 ∷ 4 ∷ 7 ∷ 0 ∷ 5 ∷ []) $ cut (‵ (flft (ν ∷ []) full_share) ∷ ‵ (flft κ' q') ∷ raw Toks ∷ ‵ Copied ∷ ‵ (ROwn (ν ∷ []) (rows l δ zs)) ∷ ‵ TOwn ∷ []) (raw (FillPre 𝓛 R κ' q' b o γ ys Toks Copied l ν δ zs) ∷ []) _ (id⊢ 𝓤 _) $ at_once ! $
-        asking 𝓛 C fm ! #fill _ (FillPre 𝓛 R κ' q' b o γ ys Toks Copied l ν δ zs) (FillPost 𝓛 R κ' q' b o γ ys Toks ν (after zs n)) (After l w) (fill l ν δ zs n fits wanted) (λ w₂. updating {P = Gathered #core #count #fill #answer l w w₂} ! $
-        use1 𝓛 (later (some (λ (us : List R.Denot). ((‵ (flft (ν ∷ []) full_share) ⊛ ‵ (flft κ' q') ⊛ raw Toks ⊛ ‵ (finally R γ us) ⊛ ‵ (unit.own_val tt (w₂ ∷ []))) ⊛ raw (fact 𝓤 (length us ≡ length ys))) ⊛ raw (fact 𝓤 (us ≡ after zs n))))) (id⊢ 𝓤 _) $ await ! tt $ pick ! (λ us.
+        move ! (2 ∷ 3 ∷ 4 ∷ 7 ∷ 0 ∷ 5 ∷ []) $ cut (‵ (flft (ν ∷ []) full_share) ∷ ‵ (flft κ' q') ∷ raw Toks ∷ ‵ Copied ∷ ‵ (ROwn (ν ∷ []) (shared-rows l zs)) ∷ ‵ TOwn ∷ []) (raw (FillPre 𝓛 R κ' q' b o γ ys Toks Copied l ν zs) ∷ []) _ (id⊢ 𝓤 _) $ at_once ! $
+        asking 𝓛 C fm ! #fill _ (FillPre 𝓛 R κ' q' b o γ ys Toks Copied l ν zs) (FillPost 𝓛 R κ' q' b o γ ys Toks ν (after zs n)) (After l w) (fill l ν zs n fits wanted) (λ w₂. updating {P = Gathered #core #count #fill #answer l w w₂} ! $
+        use1 𝓛 (later (some (λ (us : List R.Denot). ((‵ (flft (ν ∷ []) full_share) ⊛ ‵ (flft κ' q') ⊛ raw Toks ⊛ ‵ (handed-back R κ' b o γ (length ys) us) ⊛ ‵ (unit.own_val tt (w₂ ∷ []))) ⊛ raw (fact 𝓤 (length us ≡ length ys))) ⊛ raw (fact 𝓤 (us ≡ after zs n))))) (id⊢ 𝓤 _) $ await ! tt $ pick ! (λ us.
         split ! $ move ! (1 ∷ []) $ heard ! (us ≡ after zs n) (λ e₂. split ! $ move ! (1 ∷ []) $ heard ! (length us ≡ length ys) (λ l₂. split ! $ move ! (1 ∷ []) $ split ! $ move ! (1 ∷ []) $ split ! $ move ! (1 ∷ []) $ split ! $ move ! (1 ∷ []) $
         -- [the result; the table's last list; Toks; κ''s token; ν's; the lender's part; the others]
         facts ! unit (Is unit) (shows 𝓛 unit) tt (w₂ ∷ []) (λ is₂. move ! (3 ∷ []) $
@@ -192,7 +196,7 @@ module _ {M : Type 1} {𝓤 : Ura M} (𝓛 : Logic 𝓤) (C : Calls 𝓤 𝓛.H)
         use1 𝓛 (some (λ (v : Val). ‵ (fat full_share (ty_array (ty_int w16) N) l 0 v) ⊛ ‵ (AR.own_val zs (v ∷ [])))) (part_out 𝓛 AR refl full_share zs l 0) $ pick ! (λ v. split ! $ move ! (1 ∷ []) $ drop ! $
         at_once {P = Gathered #core #count #fill #answer l w w₂} ! $ check {P = ex 𝓤 (Back l w)} ! ((Nothing-Lawful 𝓛).typed tt _ is₂).0 $ show ! (Back l w) v $ frame ! $
         updating {P = Answered #core #count #fill #answer l w} ! $ at_once {P = Answered #core #count #fill #answer l w} ! $ keep ! (2 ∷ 1 ∷ 0 ∷ 3 ∷ []) $
-        answered l d w x us is l₂ (λ r a. subst (λ (xs : List R.Denot). ent 𝓤 (emp 𝓤) (Said r (exit-of x xs))) (sym e₂) (so r a))))))))))
+        answered l d w x us is l₂ (λ r a. subst (λ (xs : List R.Denot). ent 𝓤 (emp 𝓤) (Said r (exit-of x xs))) (sym e₂) (so r a)))))))))
 
     -- ---- from the covered function's answer on
     listed : (l : ℕ) (d : D.Denot) (w : Val) (x : WC) → Is D d (w ∷ []) → length (zs-of x) ≡ length zeros → ΦC d x → Sq 𝓛 (Held-all l x (zs-of x)) (prop (Listed #core #count #fill #answer l w))
@@ -228,8 +232,8 @@ module _ {M : Type 1} {𝓤 : Ura M} (𝓛 : Logic 𝓤) (C : Calls 𝓤 𝓛.H)
         -- [what is copied; the others'; the table's; κ''s token; Toks; what is lent; the lender's part; ν's token; what is asked]
         move ! (7 ∷ 4 ∷ 5 ∷ 1 ∷ 8 ∷ []) $ cut (‵ (flft (ν ∷ []) full_share) ∷ raw Toks ∷ ‵ (Lends l ν δ) ∷ ‵ Xs ∷ raw (ReqC zeros) ∷ []) (raw (CorePre l ν δ) ∷ []) _ (core-asked l ν δ) $
         at_once {P = Asked #core #count #fill #answer l} ! $ asking 𝓛 C fm ! #core _ (CorePre l ν δ) (CorePost l ν δ) (λ w. H.⇛ (guard 𝓤 (Typed dt w) (H.⇛ (Listed #core #count #fill #answer l w)))) (core l ν δ) (λ w. updating {P = guard 𝓤 (Typed dt w) (H.⇛ (Listed #core #count #fill #answer l w))} ! $
-        use1 𝓛 (later (some (λ (d : D.Denot). (raw (TC ν) ⊛ ‵ (D.own_val d (w ∷ []))) ⊛ some (λ (x : WC). ‵ (leftsC δ x) ⊛ raw (fact 𝓤 (ΦC d x)))))) (id⊢ 𝓤 _) $ await ! tt $ pick ! (λ d.
-        split ! $ move ! (1 ∷ []) $ pick ! (λ x. let zs : List ℕ = zs-of x in split ! $ move ! (1 ∷ []) $ heard ! (ΦC d x) (λ φ. use1 𝓛 (‵ (fsep (fsep (finally u16 δ zs) (feq ℕ (length zs) (length zeros))) (others x))) (orders.core-lefts-out δ x) $ fsplit ! $ fsplit ! $ move ! (1 ∷ []) $ feq_l ! (λ e.
+        use1 𝓛 (later (some (λ (d : D.Denot). (raw (TC ν) ⊛ ‵ (D.own_val d (w ∷ []))) ⊛ some (λ (x : WC). ‵ (leftsC l ν δ x) ⊛ raw (fact 𝓤 (ΦC d x)))))) (id⊢ 𝓤 _) $ await ! tt $ pick ! (λ d.
+        split ! $ move ! (1 ∷ []) $ pick ! (λ x. let zs : List ℕ = zs-of x in split ! $ move ! (1 ∷ []) $ heard ! (ΦC d x) (λ φ. use1 𝓛 (‵ (fsep (slice_left u16 (ν ∷ []) l 0 δ (length zeros) zs) (others x))) (orders.core-lefts-out l ν δ x) $ fsplit ! $ fsplit ! $ move ! (1 ∷ []) $ drop ! $ fsplit ! $ move ! (1 ∷ []) $ feq_l ! (λ e.
         -- [the list's last numbers; the others; the tokens and the answer; the table's; κ''s token; the lender's part]
         move ! (2 ∷ []) $ split ! $ move ! (1 ∷ []) $ facts ! D (Is D) (shows 𝓛 D) d (w ∷ []) (λ is. use1 𝓛 (‵ (flft (ν ∷ []) full_share) ⊛ raw Toks) (orders.core-tokens-out ν) $ split ! $
         -- [ν's token; Toks; the list's last numbers; the others; the table's; κ''s token; the lender's part]

@@ -9,25 +9,23 @@ use mathlib.Core.List.{List, [], ◌∷◌, ◌++◌, map}
 use lib.Dec.{lit<}
 use lib.ListN.{length, replicate}
 use seplogic.Ra.Ura.{Ura}
-use seplogic.Ra.TreeShare.{full_share}
-use mir.Syntax.{Name, Ty, Fn, named, mut, w16, w64, ty_int, ty_array}
+use base.Fraction.{full_share}
+use mir.Syntax.{Callee, Ty, Fn, named, mut, w16, w64, ty_int, ty_array}
 use mir.Val.{Val, vint}
 use base.Logic.{SProp, ent, sep, wand, ex, emp, id⊢, via, comm∗, assoc∗, mono_l, mono_r, snd∗, wand_i, apply∗}
-use base.Fml.{Lft, GName, Fml, ftrue, feq, fsep}
+use base.Fml.{GName, Fml, ftrue, fsep}
 use prog.Wp.{Calls, Loops, WpFn}
-use ghost.Atoms.{meaning}
 use types.Logic.{Logic, sem}
-use contract.Monad.{fact, fact_use, top}
+use contract.Monad.{fact}
 use contract.Lifetimes.{Lfts, Shares, Within, lft_at, toks}
 use sound.WpLaws.{FmC}
-use types.Kit.{‵, ◌⊛◌, ◌$◌, ◌∵◌, !, qed, move, use1, split, fsplit, fjoin, done}
 use denote.RattleType.{RattleType, Denots, Valss, owns, flat}
 use denote.Memory.{pointee}
 use denote.Laws.{Are, Ises, valss, Tellss}
 use denote.Builtin.{u8, u16, usize}
 use denote.Plain.{uint_Lawful}
-use denote.Ref.{MutBor}
-use denote.Slice.{slice_val, MutSlice, Room, finally}
+use denote.Ref.{Bor, MutBor}
+use denote.Slice.{slice_val, MutSlice, Room}
 use denote.Signature.{Slot, Signature, plain, types_at, mut_slice_of, shr_slice_of}
 use denote.Steps.{said}
 use denote.Triple.Entry.{Args, Vals}
@@ -42,24 +40,27 @@ use Rattle.filling.proofs.Straight.{array, Line, Script, fills, takes, gives, co
 use Rattle.filling.proofs.Entry.{begun, Passed, Everywhere, mapped, goes-straight}
 use Rattle.filling.proofs.Parameters.{Holds, spells, held, flat-held, kapp, happ, fore, aft, are-aft, fins, Fins-to, fore-w, aft-w, lasts_to, owns-to, share_at, swaps, toks-with, toks-but, toks-out, toks-in, toks-at, owns-apart, lasts-apart, lasts-joined, owns-joined}
 use Rattle.filling.proofs.Carried.{Carried}
-use Rattle.filling.proofs.Calls.{Unary, Fills, PoolFilling, POwn, by-pool}
+use Rattle.filling.proofs.Calls.{Unary, slice_left, Fills, PoolFilling, POwn, by-pool}
 use Rattle.filling.proofs.Filling.{Orders, filled-as, fill-script}
 
 -- k parameters, of which the table is local t at the lifetime c; what stands before it and behind it is lent on by lines with i and j
 -- locals of their own, the covered function gets the locals `fore` and `aft`, and the filling `also`. An entry's type is σ
-abbrev pub lines : RattleType → Ty → ℕ → ℕ → ℕ → ℕ → ℕ → List Line → List Line → List ℕ → List ℕ → List ℕ → Name → Name → Name → Name → ℕ → List Line
+abbrev pub lines : RattleType → Ty → ℕ → ℕ → ℕ → ℕ → ℕ → List Line → List Line → List ℕ → List ℕ → List ℕ → Callee → Callee → Callee → Callee → ℕ → List Line
 lines R σ k t c i j before after fore aft also #core #count #fill #answer N =
     fills (1 + k) w16 0 N ∷ (before ++ (counts_of (3 + k + i) t (named c) mut (pointee R.written) ∷ slices (4 + k + i) (5 + k + i) (1 + k) N
     ∷ (after ++ (takes (1 + k) ∷ asks #core (fore ++ ((3 + k + i) ∷ (5 + k + i) ∷ aft)) (2 + k)
     ∷ slices (7 + k + i + j) (8 + k + i + j) (1 + k) N ∷ asks #count ((2 + k) ∷ []) (3 + k + i) ∷ lends-on (9 + k + i + j) (10 + k + i + j) t (named c) mut (pointee R.written) σ
     ∷ asks #fill (also ++ ((8 + k + i + j) ∷ (3 + k + i) ∷ (10 + k + i + j) ∷ [])) (6 + k + i + j) ∷ gives (1 + k) ∷ asks #answer ((2 + k) ∷ []) 0 ∷ []))))
 
--- the pool's slot, and what a slice's local holds
+-- the pool's slot, and what the local of a slice that is lent by `&mut` holds, and of one that is lent by `&`
 abbrev pub pool-slot : {m : ℕ} → Slot (suc m)
 pool-slot = shr_slice_of (0 ∷ []) tt (plain (λ _. u8))
 
 abbrev pub slice-cell : {X : Type 0} → MutBor (List X) → Cell
 slice-cell x = slice x.ref_ptr.0 x.ref_ptr.1 (length x.now)
+
+abbrev pub shared-cell : {X : Type 0} → Bor (List X) → Cell
+shared-cell x = slice x.ref_ptr.0 x.ref_ptr.1 (length x.now)
 
 pub list-typed : {M : Type 1} {𝓤 : Ura M} (𝓛 : Logic 𝓤) → (N : ℕ) → Typed (ty_array (ty_int w16) N) (array w16 0 N)
 unfolding array
@@ -91,7 +92,7 @@ module _ {M : Type 1} {𝓤 : Ura M} (𝓛 : Logic 𝓤) (C : Calls 𝓤 𝓛.H)
     (count_of : D.row.Denot → ℕ) (answers : D.row.Denot → T.row.Denot → Type 0)
     -- the pool, which the filling gets once more; what the filling asks of it, of the list, of the count and of the table; and how it leaves
     -- the table
-    (pool : (κs : Lfts (suc n)) → Args (taking R (suc n) (suc j) ok bs ks₀ ss ks T.row) κs → MutBor (List ℕ)) (Wants : List ℕ → List ℕ → ℕ → List R.Denot → Type 0) (after : List ℕ → List ℕ → ℕ → List R.Denot → List R.Denot) where
+    (pool : (κs : Lfts (suc n)) → Args (taking R (suc n) (suc j) ok bs ks₀ ss ks T.row) κs → Bor (List ℕ)) (Wants : List ℕ → List ℕ → ℕ → List R.Denot → Type 0) (after : List ℕ → List ℕ → ℕ → List R.Denot → List R.Denot) where
   open 𝓛 use {H, A}
 
   abbrev S : Signature
@@ -168,14 +169,14 @@ module _ {M : Type 1} {𝓤 : Ura M} (𝓛 : Logic 𝓤) (C : Calls 𝓤 𝓛.H)
     abbrev w₁ : WC → Rest
     w₁ w = aft-w κs Rest bs ks₀ a₀ w
 
-    abbrev Rows-left : GName → List ℕ → Fml
-    Rows-left δ zs = fsep (finally u16 δ zs) (feq ℕ (length zs) (length zeros))
+    abbrev Rows-left : ℕ → ℕ → GName → List ℕ → Fml
+    Rows-left l ν δ zs = slice_left u16 (ν ∷ []) l 0 δ (length zeros) zs
 
-    abbrev left-on : GName → Rest → Fml
-    left-on δ w = fsep ftrue (fsep (Rows-left δ w.1.0) (lasts_of κs ss ks a₁ w.1.1))
+    abbrev left-on : ℕ → ℕ → GName → Rest → Fml
+    left-on l ν δ w = fsep ftrue (fsep (Rows-left l ν δ w.1.0) (lasts_of κs ss ks a₁ w.1.1))
 
-    abbrev leftsC : GName → WC → Fml
-    leftsC δ = lasts_to κs Rest (left-on δ) bs ks₀ a₀
+    abbrev leftsC : ℕ → ℕ → GName → WC → Fml
+    leftsC l ν δ = lasts_to κs Rest (left-on l ν δ) bs ks₀ a₀
 
     abbrev others : WC → Fml
     others w = fsep (lasts_of κs bs ks₀ a₀ (w₀ w)) (lasts_of κs ss ks a₁ (w₁ w).1.1)
@@ -187,7 +188,7 @@ module _ {M : Type 1} {𝓤 : Ura M} (𝓛 : Logic 𝓤) (C : Calls 𝓤 𝓛.H)
     Core-pre l ν δ = sep 𝓤 (sep 𝓤 (TC ν) (sem 𝓛 (OC l ν δ))) (fact 𝓤 (Needs κs a zeros))
 
     abbrev pub Core-post : ℕ → ℕ → GName → Val → SProp 𝓤
-    Core-post l ν δ v = H.⇛ (ex 𝓤 (λ (d : D.row.Denot). sep 𝓤 (sep 𝓤 (TC ν) (sem 𝓛 (D.row.own_val d (v ∷ [])))) (ex 𝓤 (λ (w : WC). sep 𝓤 (sem 𝓛 (leftsC δ w)) (fact 𝓤 (Core-says d w))))))
+    Core-post l ν δ v = H.⇛ (ex 𝓤 (λ (d : D.row.Denot). sep 𝓤 (sep 𝓤 (TC ν) (sem 𝓛 (D.row.own_val d (v ∷ [])))) (ex 𝓤 (λ (w : WC). sep 𝓤 (sem 𝓛 (leftsC l ν δ w)) (fact 𝓤 (Core-says d w))))))
 
     -- the function's
     abbrev WF : Type 0
@@ -234,13 +235,13 @@ module _ {M : Type 1} {𝓤 : Ura M} (𝓛 : Logic 𝓤) (C : Calls 𝓤 𝓛.H)
       core-owns-in = λ l ν δ. let P : SProp 𝓤 = sem 𝓛 Room-own in let Q : SProp 𝓤 = sem 𝓛 (Rows-own l ν δ) in
           via 𝓤 (sep 𝓤 (sem 𝓛 B) (sep 𝓤 (sep 𝓤 P Q) (sem 𝓛 X))) (swaps 𝓛 (sep 𝓤 P Q) (sem 𝓛 B) (sem 𝓛 X))
           (via 𝓤 (sep 𝓤 (sem 𝓛 B) (sep 𝓤 P (sep 𝓤 Q (sem 𝓛 X)))) (mono_r 𝓤 (sem 𝓛 B) (assoc∗ 𝓤 P Q (sem 𝓛 X))) (owns-joined 𝓛 (fsep Room-own (fsep (Rows-own l ν δ) X)) (types_at bs κs) a₀ vss₀));
-      core-lefts-out = λ δ w. let P : SProp 𝓤 = sem 𝓛 (lasts_of κs bs ks₀ a₀ (w₀ w)) in let Q : SProp 𝓤 = sem 𝓛 (Rows-left δ (w₁ w).1.0) in let Z : SProp 𝓤 = sem 𝓛 (lasts_of κs ss ks a₁ (w₁ w).1.1) in
-          via 𝓤 (sep 𝓤 P (sep 𝓤 (emp 𝓤) (sep 𝓤 Q Z))) (lasts-apart 𝓛 κs Rest (left-on δ) bs ks₀ a₀ w) (via 𝓤 (sep 𝓤 P (sep 𝓤 Q Z)) (mono_r 𝓤 P (snd∗ 𝓤 (emp 𝓤) (sep 𝓤 Q Z))) (swaps 𝓛 P Q Z));
-      lefts_in = λ w zs. let P : SProp 𝓤 = sem 𝓛 (lasts_of κs bs ks₀ a₀ (w₀ w)) in let Q : SProp 𝓤 = sem 𝓛 (fsep (finally R t.ghost_name zs) (feq ℕ (length zs) (length t.now))) in let Z : SProp 𝓤 = sem 𝓛 (lasts_of κs ss ks a₁ (w₁ w).1.1) in
+      core-lefts-out = λ l ν δ w. let P : SProp 𝓤 = sem 𝓛 (lasts_of κs bs ks₀ a₀ (w₀ w)) in let Q : SProp 𝓤 = sem 𝓛 (Rows-left l ν δ (w₁ w).1.0) in let Z : SProp 𝓤 = sem 𝓛 (lasts_of κs ss ks a₁ (w₁ w).1.1) in
+          via 𝓤 (sep 𝓤 P (sep 𝓤 (emp 𝓤) (sep 𝓤 Q Z))) (lasts-apart 𝓛 κs Rest (left-on l ν δ) bs ks₀ a₀ w) (via 𝓤 (sep 𝓤 P (sep 𝓤 Q Z)) (mono_r 𝓤 P (snd∗ 𝓤 (emp 𝓤) (sep 𝓤 Q Z))) (swaps 𝓛 P Q Z));
+      lefts_in = λ w zs. let P : SProp 𝓤 = sem 𝓛 (lasts_of κs bs ks₀ a₀ (w₀ w)) in let Q : SProp 𝓤 = sem 𝓛 (slice_left R (lft_at (suc n) (suc j) ok κs) t.ref_ptr.0 t.ref_ptr.1 t.ghost_name (length t.now) zs) in let Z : SProp 𝓤 = sem 𝓛 (lasts_of κs ss ks a₁ (w₁ w).1.1) in
           via 𝓤 (sep 𝓤 P (sep 𝓤 Q Z)) (swaps 𝓛 Q P Z) (lasts-joined 𝓛 κs bs us ks₀ (yes, ks) a (w₀ w) (zs, (w₁ w).1.1));
     }
 
-    abbrev Asked : Name → Name → Name → Name → ℕ → Script
+    abbrev Asked : Callee → Callee → Callee → Callee → ℕ → Script
     Asked #core #count #fill #answer l = fill-script #core #count #fill #answer N l D.mir T.mir vs₀ vs₁ ps t.ref_ptr.0 t.ref_ptr.1 (length t.now)
 
     abbrev Entry : SProp 𝓤
@@ -249,21 +250,21 @@ module _ {M : Type 1} {𝓤 : Ura M} (𝓛 : Logic 𝓤) (C : Calls 𝓤 𝓛.H)
     abbrev Held : List Cell
     Held = held (types_at (bs ++ us) κs) (all_held κs) a
 
-    filling : (#fill : Name) → Triple 𝓤 (C #fill) (PoolFilling 𝓛 R Wants after) → Fills 𝓛 R (lft_at (suc n) (suc j) ok κs) (share_at (suc n) (suc j) ok qs) t.ref_ptr.0 t.ref_ptr.1 t.ghost_name t.now Toks C #fill ps Copied wants-so filled-so
+    filling : (#fill : Callee) → Triple 𝓤 (C #fill) (PoolFilling 𝓛 R Wants after) → Fills 𝓛 R (lft_at (suc n) (suc j) ok κs) (share_at (suc n) (suc j) ok qs) t.ref_ptr.0 t.ref_ptr.1 t.ghost_name t.now Toks C #fill ps Copied wants-so filled-so
     filling = by-pool 𝓛 R (lft_at n j ok κs.1) (share_at n j ok qs.1) t.ref_ptr.0 t.ref_ptr.1 t.ghost_name t.now Toks C fm κs.0 qs.0 (pool κs a) (toks-but 𝓛 n j ok κs.1 qs.1) (id⊢ 𝓤 Toks) (id⊢ 𝓤 Toks) Wants after
 
     -- what a function's own code owes: that its locals are of the types that the lines need, and that the lines ask what is asked here
-    abbrev pub Coded : Fn → Name → Name → Name → Name → List Line → Type 0
+    abbrev pub Coded : Fn → Callee → Callee → Callee → Callee → List Line → Type 0
     Coded f #core #count #fill #answer ls = Everywhere 𝓤 H f.locals (λ E. Passed 𝓤 H E Held × Fine 𝓤 H E ls (begun 𝓤 H E Held) × ((l : ℕ) × (Asked #core #count #fill #answer l ≡ script 𝓤 H E ls (begun 𝓤 H E Held))))
 
-  abbrev pub Core-known : Name → Type 1
+  abbrev pub Core-known : Callee → Type 1
   Core-known #core = (κs : Lfts (suc n)) (qs : Shares (suc n)) (a : Args S κs) (l ν : ℕ) (δ : GName)
       → ent 𝓤 (Core-pre κs qs a l ν δ) (C #core (vs₀ κs qs a ++ (vint w64 (length (t κs qs a).now) ∷ slice_val (l, 0) N ∷ vs₁ κs qs a)) (Core-post κs qs a l ν δ))
 
   abbrev pub Are-all : (κs : Lfts (suc n)) → Args S κs → Type 0
   Are-all κs a = Are (types_at (bs ++ us) κs) (Ises (types_at (bs ++ us) κs)) a (valss (types_at (bs ++ us) κs) (spells (types_at (bs ++ us) κs) (all_held κs)) a)
 
-  pub fills-table : (f : Fn) (#core #count #fill #answer : Name) (ls : List Line) → f.body ≡ code ls
+  pub fills-table : (f : Fn) (#core #count #fill #answer : Callee) (ls : List Line) → f.body ≡ code ls
       → ((κs : Lfts (suc n)) (qs : Shares (suc n)) (a : Args S κs) → Are-all κs a → Coded κs qs a f #core #count #fill #answer ls)
       → Room u16 N → ((κs : Lfts (suc n)) → Tellss (types_at (bs ++ us) κs) (Ises (types_at (bs ++ us) κs)) (spells (types_at (bs ++ us) κs) (all_held κs)))
       → ((κs : Lfts (suc n)) (a : Args S κs) → ent 𝓤 (Asks κs a) (fact 𝓤 (Needs κs a (replicate N 0))))

@@ -6,7 +6,6 @@ use mathlib.Core.Path.{◌≡◌, refl, ap}
 use Prim.Native.Nat.{ℕ, zero, suc}
 use mathlib.Core.List.{List, [], ◌∷◌, ◌++◌, map}
 use seplogic.Ra.Ura.{Ura}
-use mir.Val.{Val}
 use base.Logic.{SProp, ent, sep, emp, id⊢, via, assoc∗, assoc', mono_r, snd∗, emp∗}
 use base.Fml.{Share, Fml, fsep}
 use types.Logic.{Logic, sem}

@@ -11,13 +11,12 @@ use mathlib.Core.List.{List, [], ◌∷◌}
 use lib.Dec.{T, ltb}
 use lib.ListN.{replicate}
 use seplogic.Ra.Ura.{Ura}
-use seplogic.Ra.TreeShare.{full_share}
-use mir.Syntax.{Name, Width, Ty, Lifetime, Mutability, Opd as Operand, Body, place, field, deref, copy, int, int_big, rv_opd, addr_of, aggregate, repeat, assign, call, seq, return, w64, ty_ref}
+use base.Fraction.{full_share}
+use mir.Syntax.{Callee, Width, Ty, Lifetime, Mutability, Opd as Operand, Body, place, field, deref, copy, int, int_big, rv_opd, addr_of, aggregate, repeat, assign, call, seq, return, w64, ty_ref}
 use mir.Val.{Val, vint, vptr, vstruct, of_list, WT, Fits, has_ty, bits}
 use base.Logic.{SProp, ent, sep, wand, ex, guard, never, id⊢, via, apply∗, emp}
 use base.Fml.{ftrue, fsep, fat, froom, fdies}
 use prog.Wp.{Heap, Env, Calls, Loops, returns as returned, release, at_return}
-use ghost.Atoms.{meaning}
 use types.Logic.{Logic, sem}
 use contract.Monad.{top}
 use sound.WpLaws.{FmC}
@@ -38,7 +37,7 @@ pub data Line : Type 0 where
   lends-on : ℕ → ℕ → ℕ → Lifetime → Mutability → Ty → Ty → Line  -- local d is the pointer and local e the whole of the slice in local i
   refers : ℕ → ℕ → Ty → Line  -- local d is the reference in local i, lent on
   slices : ℕ → ℕ → ℕ → ℕ → Line  -- local d is the address of local i, local e a slice of n there, which is above 1023
-  asks : Name → List ℕ → ℕ → Line  -- local d is what a function answers to some locals
+  asks : Callee → List ℕ → ℕ → Line  -- local d is what a function answers to some locals
 
 abbrev pub copies : List ℕ → List Operand
 copies [] = []
@@ -69,7 +68,7 @@ pub data Script : Type 0 where
   ends : Val → Script
   lends : Ty → ℕ → Val → Script → Script
   backs : Ty → ℕ → (Val → Script) → Script
-  queries : Name → List Val → Ty → (Val → Script) → Script
+  queries : Callee → List Val → Ty → (Val → Script) → Script
   stuck : Script
 
 -- a slice in a local
