@@ -2,7 +2,8 @@
 use mathlib.Core.Path.{◌≡◌, refl, ap}
 use mathlib.Core.List.{List, []}
 use Prim.Native.Nat.{ℕ}
-use denote.Ref.{Bor}
+use denote.Bor.{Bor}
+use denote.MutBor.{MutBor}
 use lib.ListN.{length}
 use Rattle.session.specs.Calls as S
 use Rattle.activation.specs.Activating as Act
@@ -33,17 +34,20 @@ did (does_lost κs s st k r ask post) = let w = says r (S.lost_of s) post in rec
 ref : {A : Type 0} → List A → Bor (List A)
 ref l = record { ref_ptr = (0, 0); now = l }
 
+mut : {A : Type 0} → List A → MutBor (List A)
+mut l = record { ref_ptr = (0, 0); ghost_name = 0; now = l }
+
 one : (c : Call) (s : Session) (st k : List ℕ) → One in_rattle s st k c
-unfolding ref
+unfolding ref mut
 one (offer n) s st k =
     let r = real s st k (offer n) in
     record { step = r.step; staging = st; area = k; table = []; does = does_offer ([], ([], tt)) s n (ref st) (ref k) r.step tt r.tells }
 one (transfer p) s st k =
     let r = real s st k (transfer p) in
-    record { step = r.step; staging = S.staging_after s p st; area = k; table = []; does = does_transfer ([], ([], tt)) s (ref p) (ref st) k r.step (S.staging_after s p st) tt (r.tells, refl) }
+    record { step = r.step; staging = S.staging_after s p st; area = k; table = []; does = does_transfer ([], ([], tt)) s (ref p) (mut st) k r.step (S.staging_after s p st) tt (r.tells, refl) }
 one (activate t) s st k =
     let r = real s st k (activate t) in
-    record { step = r.step; staging = st; area = Act.kept_after s st k (length t); table = Act.records_activated s st (length k) t; does = does_activate ([], ([], ([], tt))) s (ref st) (ref k) (ref t) r.step (Act.kept_after s st k (length t)) (Act.records_activated s st (length k) t) (r.tells, refl, refl) }
+    record { step = r.step; staging = st; area = Act.kept_after s st k (length t); table = Act.records_activated s st (length k) t; does = does_activate ([], ([], ([], tt))) s (ref st) (mut k) (mut t) r.step (Act.kept_after s st k (length t)) (Act.records_activated s st (length k) t) (r.tells, refl, refl) }
 one deactivate s st k = let r = real s st k deactivate in record { step = r.step; staging = st; area = k; table = []; does = does_deactivate tt s st k r.step tt r.tells }
 one delete s st k = let r = real s st k delete in record { step = r.step; staging = st; area = k; table = []; does = does_delete tt s st k r.step tt r.tells }
 one lost s st k = let r = real s st k lost in record { step = r.step; staging = st; area = k; table = []; does = does_lost tt s st k r.step tt r.tells }
