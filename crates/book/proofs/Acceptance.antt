@@ -3,21 +3,18 @@ use mathlib.Core.Path.{◌≡◌, refl, sym, ap, ap₂, ◌∙◌}
 use mathlib.Core.Logic.{◌↔◌}
 use mathlib.Core.List.Memᴰ
 use mathlib.Core.List.{List, [], ◌∷◌, Memᴰ}
-use Prim.Native.Nat.{ℕ, zero, suc, ◌≤◌, ◌<◌}
+use Prim.Native.Nat.{ℕ, suc, ◌≤◌}
 use native.Mathlib.Omega.{arith}
 use borrow.Author.Tests.{eqb-true, eqb-false}
 use lib.Dec.{eqb}
 use lib.ListN.{length}
 use Rattle.wire.proofs.Either.{by-case}
-use Rattle.division.specs.Division.{Division, Divides}
 use Rattle.pool.proofs.Judged.{as_read}
 use Rattle.pool.specs.Answer.{Answer, answer}
 use Rattle.pool.specs.Reading.{read_of}
 use Rattle.faults.specs.Faults.{Fault, fault}
-use Rattle.rules.specs.Breach.{Breach}
-use Rattle.rules.specs.Table.{breaches_of}
 use Rattle.checker.specs.Checking.{check_of}
-use Rattle.claims.specs.Reads.{Sized, Reads, listed}
+use Rattle.claims.specs.Reads.{Sized}
 use Rattle.claims.specs.Checks.{Checked}
 use Rattle.claims.proofs.Verdict.{reading}
 use Rattle.claims.proofs.Checking.{checking}

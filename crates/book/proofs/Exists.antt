@@ -1,19 +1,17 @@
 -- For every outcome of a call that the definitions give there is a step of Rattle. Assumes nothing.
-use mathlib.Core.Path.{◌≡◌, refl, sym, ap, ◌∙◌}
+use mathlib.Core.Path.{◌≡◌, refl}
 use mathlib.Core.Bool.{Bool, true, false, cond, not, ◌||◌}
-use mathlib.Core.List.{List, [], ◌∷◌}
-use Prim.Native.Nat.{ℕ, zero, suc, ◌-◌, ◌≤◌, ◌<◌}
-use native.Mathlib.Omega.{arith}
-use borrow.Author.Tests.{not-true, not-false, eqb-true}
+use mathlib.Core.List.{List}
+use Prim.Native.Nat.{ℕ, ◌-◌, ◌≤◌}
+use borrow.Author.Tests.{not-false}
 use lib.Dec.{eqb, ltb}
 use lib.ListN.{length, take}
 use Rattle.pool.specs.Answer.{Answer, answer}
-use Rattle.pool.specs.Reading.{Scan, records, refused, counted, scan_of, read_of}
+use Rattle.pool.specs.Reading.{Scan, records, refused, counted, scan_of}
 use Rattle.pool.proofs.Steps.{Refusal, unmarked, cut, over, Proper, scan-proper}
 use Rattle.pool.proofs.Judged.{read_walk}
 use Rattle.rules.specs.Table.{breaches_of}
 use Rattle.checker.specs.Checking.{check_of, reported}
-use Rattle.session.specs.Answers.{reply_of}
 use Rattle.session.specs.Calls as S
 use Rattle.activation.specs.Activating as Act
 use Rattle.session.specs.declared.Answer.TheVariants.{Done, NoMark, Cut, LengthOver, TooMany, TableShort, BadSize, NotOffered, BadPiece, Incomplete, Faulty, NotActive, NoRoom, CannotArise}

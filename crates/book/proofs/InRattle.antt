@@ -12,7 +12,7 @@ use Rattle.session.specs.declared.Step.{Step}
 use Rattle.working_table.specs.declared.Record.{Record}
 use Rattle.book.specs.Book.{Call, offer, transfer, activate, deactivate, delete, lost}
 use Rattle.book.specs.InRattle.{in_rattle, Does, does_offer, does_transfer, does_activate, does_deactivate, does_delete, does_lost, New, is_new}
-use Rattle.book.proofs.Follows.{said_in, told_by, Did, One, Follows}
+use Rattle.book.proofs.Follows.{said_in, Did, One, Follows}
 use Rattle.book.proofs.Exists.{real}
 
 new_is : {s : Session} → New s → s ≡ S.new_session

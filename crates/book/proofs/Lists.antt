@@ -6,7 +6,6 @@ use mathlib.Core.List.{List, [], ◌∷◌, map, Memᴰ}
 use Prim.Native.Nat.{ℕ}
 use lib.ListN.{length}
 use Rattle.session.specs.declared.Session.{Session}
-use Rattle.working_table.specs.declared.Record.{Record}
 use Rattle.book.specs.Book.{Said, Book, blank, noted, book_of, said_of, Call}
 use Rattle.book.specs.Run.{Functions, Runs, ends, goes, session_of}
 use Rattle.book.specs.Claim.{After, Outcome, Booked}

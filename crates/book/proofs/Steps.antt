@@ -1,7 +1,7 @@
 -- Each call does as the book says. Assumes nothing.
 use mathlib.Core.Path.{◌≡◌, refl, sym, ap, ◌∙◌}
 use mathlib.Core.Bool.{true, false, cond, ◌||◌, true≢false}
-use mathlib.Core.List.{List, [], ◌∷◌, ◌++◌, append_assoc}
+use mathlib.Core.List.{List, [], ◌∷◌, ◌++◌}
 use Prim.Native.Nat.{ℕ, ◌+◌, ◌-◌, ◌≤◌, ◌<◌}
 use native.Mathlib.Omega.{arith}
 use borrow.Author.Tests.{ltb-false, le-ltb, eqb-true, eqb-false, ne_eqb}
@@ -12,15 +12,14 @@ use Rattle.pool.specs.Answer.{Answer}
 use Rattle.working_table.specs.declared.Record.{Record}
 use Rattle.faults.specs.Faults.{FaultEntry}
 use Rattle.checker.specs.Checking.{check_of, reported}
-use Rattle.session.specs.Answers.{Reply, reply_of}
 use Rattle.session.specs.Calls as S
 use Rattle.activation.specs.Activating as Act
 use Rattle.session.specs.declared.Session.{Session}
 use Rattle.wire.proofs.Either.{neither, by-case}
-use Rattle.book.specs.Book.{Said, Book, blank, Noted, noted, note, over, checked, first_in, Call, offer, transfer, activate, deactivate, delete, lost}
+use Rattle.book.specs.Book.{Book, Noted, noted, note, checked, first_in, Call, offer, transfer, activate, deactivate, delete, lost}
 use Rattle.book.specs.Run.{Functions, session_of, Starts}
-use Rattle.book.proofs.Good.{Good, possible, is_one, is-zero, blank-good, over-good}
-use Rattle.book.proofs.Follows.{said_in, told_by, staging_by, kept_by, table_by, Did}
+use Rattle.book.proofs.Good.{Good, possible, is_one, blank-good, over-good}
+use Rattle.book.proofs.Follows.{said_in, told_by, staging_by, kept_by, Did}
 
 -- what a call tells and returns is what the book notes, and the book stays good
 pub record Ok (ls lk : ℕ) (t : S.Told) (m : Noted) (st k : List ℕ) : Type 0 where

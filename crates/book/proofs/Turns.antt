@@ -2,11 +2,11 @@
 use mathlib.Core.Path.{◌≡◌, refl, sym, ap, ◌∙◌}
 use mathlib.Core.Bool.{true, false, cond, ◌||◌, true≢false}
 use mathlib.Core.Logic.{◌↔◌, ◌⊎◌, inl, inr, ⊎_elim}
-use mathlib.Core.List.{List, [], ◌∷◌, ◌++◌, append_assoc}
-use Prim.Native.Nat.{ℕ, ◌+◌, ◌-◌, ◌≤◌, ◌<◌}
+use mathlib.Core.List.{List, ◌++◌}
+use Prim.Native.Nat.{ℕ, ◌-◌, ◌≤◌}
 use native.Mathlib.Omega.{arith}
 use native.Mathlib.Nat.{zero-add}
-use borrow.Author.Tests.{ltb-true, ltb-false, le-ltb, eqb-true, ne_eqb}
+use borrow.Author.Tests.{ltb-true, ltb-false, le-ltb}
 use lib.Dec.{eqb, ltb}
 use lib.ListN.{length, take, drop}
 use lib.Seq.{sets, sets-eq}
@@ -14,11 +14,10 @@ use Rattle.wire.proofs.Either.{by-case}
 use Rattle.pool.specs.Answer.{Answer}
 use Rattle.working_table.specs.declared.Record.{Record}
 use Rattle.checker.specs.Checking.{check_of, reported}
-use Rattle.session.specs.Calls as S
 use Rattle.activation.specs.Activating as Act
 use Rattle.activation.proofs.Settled.{check-low}
 use Rattle.session.specs.declared.Session.{Session}
-use Rattle.book.specs.Book.{Said, said, Book, Noted, noted, note, tabled, checked, first_in, Call, offer, transfer, activate, deactivate, delete, lost}
+use Rattle.book.specs.Book.{said, Book, Noted, noted, note, tabled, checked, first_in, Call, offer, transfer, activate, deactivate, delete, lost}
 use Rattle.book.specs.Run.{Functions, session_of}
 use Rattle.book.specs.Claim.{Accepted, Turn, won, deleted, stays}
 use Rattle.book.proofs.Good.{Good, possible, is_one}

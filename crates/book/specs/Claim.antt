@@ -1,13 +1,13 @@
 -- Demand 3 as one claim about every list of session calls, from a new session, over any two areas, whatever the pieces and tables. It
 -- is stated for any set of functions for these calls. Definitions only.
-use Rattle.std.specs.Prelude.{ℕ, ◌+◌, ◌≤◌, ◌≡◌, true, ◌↔◌, length, drop}
-use mathlib.Core.List.{List, [], ◌∷◌, ◌++◌, map, Memᴰ}
+use Rattle.std.specs.Prelude.{ℕ, ◌≤◌, ◌≡◌, true, ◌↔◌, length, drop}
+use mathlib.Core.List.{List, [], ◌++◌, map, Memᴰ}
 use Rattle.division.specs.Division.{Division}
 use Rattle.working_table.specs.declared.Record.{Record}
 use Rattle.rules.specs.Breach.{Breach}
 use Rattle.claims.specs.Reads.{listed}
 use Rattle.session.specs.declared.Session.{Session}
-use Rattle.book.specs.Book.{Said, said, Book, blank, noted, tabled, book_of, said_of, Call, offer, transfer, activate, deactivate, delete, lost}
+use Rattle.book.specs.Book.{Said, said, Book, blank, noted, tabled, book_of, said_of, Call, activate, delete}
 use Rattle.book.specs.Run.{Functions, Runs, session_of, Starts}
 
 -- the pool divides into records (by the definition that is independent of the reader), a table of room entries holds them, and they

@@ -1,7 +1,7 @@
 -- The session calls of Rattle. Each call's outcome is one that the contract of its function allows: `Asked` and `Learnt` are the
 -- prover's own readings of what a function asks of its caller and of what it promises, so no contract is repeated here.
 -- Definitions only.
-use Rattle.std.specs.Prelude.{◌≡◌, refl, List, [], ℕ}
+use Rattle.std.specs.Prelude.{refl, List, [], ℕ}
 use denote.Bor.{Bor}
 use denote.MutBor.{MutBor}
 use denote.Ref.{at_last}

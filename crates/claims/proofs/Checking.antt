@@ -1,9 +1,9 @@
 -- Checking by the division and the breaches: the pool is read, its records are those of the division, and the breach list is that of these records.
 -- Assumes nothing.
-use mathlib.Core.Path.{◌≡◌, refl, sym, ap, ◌∙◌}
+use mathlib.Core.Path.{◌≡◌, refl, ap, ◌∙◌}
 use mathlib.Core.Logic.{inl, inr}
-use mathlib.Core.List.{List, [], ◌∷◌, ◌++◌, map}
-use Prim.Native.Nat.{ℕ, suc, ◌*◌, ◌/◌, ◌≤◌, ◌<◌}
+use mathlib.Core.List.{List, ◌++◌, map}
+use Prim.Native.Nat.{ℕ, ◌*◌, ◌/◌, ◌≤◌}
 use native.Mathlib.Omega.{arith}
 use native.Mathlib.Decide.{dec_le}
 use native.Mathlib.Nat.{zero-add}
@@ -11,14 +11,13 @@ use lib.ListN.{length, take, drop}
 use lib.Seq.{sets, sets-eq, take_all, length-take-le}
 use Rattle.faults.specs.Faults.{FaultEntry, entry_for, width, flat, written}
 use Rattle.faults.proofs.Completing.{flat-long}
-use Rattle.division.specs.Division.{Division, Divides}
 use Rattle.pool.specs.Answer.{answer}
 use Rattle.pool.specs.Reading.{read_of, scan_of, entries_in}
 use Rattle.rules.specs.Table.{breaches_in, breaches_of}
 use Rattle.rules.proofs.Listing.{breaches-listed}
 use Rattle.checker.specs.Checking.{check_of, reported, faults_after}
-use Rattle.claims.specs.Reads.{listed, Sized, Reads}
-use Rattle.claims.specs.Checks.{Holds, Checked, Checks}
+use Rattle.claims.specs.Reads.{listed, Reads}
+use Rattle.claims.specs.Checks.{Holds, Checks}
 use Rattle.claims.proofs.Verdict.{reading}
 
 laid-over : (xs b : List ℕ) (n : ℕ) → length xs ≡ n → n ≤ length b → sets b 0 xs ≡ xs ++ drop n b

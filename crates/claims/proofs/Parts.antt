@@ -1,20 +1,18 @@
 -- The fields of a record are the parts that it consists of: each is read where the part before it ends. Assumes nothing.
 use mathlib.Core.Path.{◌≡◌, refl, sym, ap, subst, ◌∙◌}
-use mathlib.Core.List.{List, [], ◌∷◌, ◌++◌, append_assoc, append-nil}
-use Prim.Native.Nat.{ℕ, zero, suc, ◌+◌, ◌-◌, ◌*◌, ◌≤◌, ◌<◌}
+use mathlib.Core.List.{List, [], ◌∷◌, ◌++◌, append_assoc}
+use Prim.Native.Nat.{ℕ, zero, suc, ◌+◌, ◌-◌, ◌*◌, ◌≤◌}
 use native.Mathlib.Omega.{arith}
 use native.Mathlib.Nat.{add-zero}
 use lib.ListN.{length, get_or, take, drop, length-append}
 use lib.Seq.{drop-append_seam, take-append_seam, get_or-append_seam, drop-drop}
 use Rattle.wire.specs.Parts.{joined}
 use Rattle.wire.specs.Bytes.{le_of, number_in, signed_of}
-use Rattle.records.specs.Layout.{Field, fixed, text, entries, layout}
-use Rattle.records.specs.Places.{behind, behind_all, field_at, id_of}
-use Rattle.records.specs.declared.Kind.{Kind}
-use Rattle.records.specs.declared.Kind.TheVariants.{Dvc, Det, Dpd, Dpt, Dvp}
+use Rattle.records.specs.Layout.{layout}
+use Rattle.records.specs.Places.{field_at, id_of}
 use Rattle.views.specs.Fields.{text_after, bytes_at, part_of, device_of, element_of, entry_of, process_data_of, property_of, presentation_of}
-use Rattle.division.specs.Written.{sized, Written, dvc, det, dpd, dpt, dvp}
-use Rattle.claims.specs.Parts.{Shows, FieldsAreParts}
+use Rattle.division.specs.Written.{sized, dvc, det, dpd, dpt, dvp}
+use Rattle.claims.specs.Parts.{FieldsAreParts}
 
 -- parts one after the other, and more
 onto : List (List ℕ) → List ℕ → List ℕ

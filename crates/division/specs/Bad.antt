@@ -1,6 +1,6 @@
 -- Bytes that do not begin with a whole record: the causes of refusals 3, 4 and 5, each in the words of document 01's table.
 -- Definitions only.
-use Rattle.std.specs.Prelude.{ℕ, ◌+◌, ◌≤◌, ◌<◌, ◌≡◌, ◌⊎◌, List, [], ◌∷◌, ◌++◌, length, take}
+use Rattle.std.specs.Prelude.{ℕ, ◌+◌, ◌≤◌, ◌<◌, ◌≡◌, ◌⊎◌, List, ◌∷◌, ◌++◌, length, take}
 use Rattle.records.specs.Layout.{Field, text, mark, layout}
 use Rattle.records.specs.declared.Kind.{Kind}
 use Rattle.division.specs.Whole.{Fills, Whole}

@@ -1,5 +1,5 @@
 -- The claims: a division is unique, and the extent of a record is decided by whole and bad records alone. Definitions only.
-use Rattle.std.specs.Prelude.{ℕ, ◌+◌, ◌*◌, ◌≤◌, ◌≡◌, ◌↔◌, List, ◌++◌, length, drop}
+use Rattle.std.specs.Prelude.{ℕ, ◌+◌, ◌≤◌, ◌≡◌, ◌↔◌, List, ◌++◌, length, drop}
 use Rattle.records.specs.Extents.{extent_of}
 use Rattle.records.specs.declared.Extent.TheVariants.{Ends, NoMark, Cut, LengthOver}
 use Rattle.division.specs.Whole.{Whole}

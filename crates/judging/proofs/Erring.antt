@@ -1,20 +1,19 @@
 -- Each return of judging is a case of the definition. Assumes nothing.
-use mathlib.Core.Path.{◌≡◌, refl, sym, ap, ◌∙◌}
+use mathlib.Core.Path.{◌≡◌, sym, ap, ◌∙◌}
 use mathlib.Core.Bool.{true, false}
 use mathlib.Core.List.{List}
-use Prim.Native.Nat.{ℕ, ◌-◌, ◌≤◌, ◌<◌}
-use native.Mathlib.Omega.{arith}
-use borrow.Author.Tests.{ne_eqb, lt-ltb, le-ltb}
+use Prim.Native.Nat.{ℕ, ◌-◌, ◌<◌}
+use borrow.Author.Tests.{ne_eqb}
 use lib.IntN.{ℤ}
 use lib.ListN.{length, get_or}
 use Rattle.records.specs.Layout.{mark_code, mark_of, three}
-use Rattle.pool.specs.Reading.{Entry, scan_of, entries_in}
+use Rattle.pool.specs.Reading.{Entry}
 use Rattle.pool.specs.Walk.{entries_of}
 use Rattle.naming.specs.Naming.{kind_of}
 use Rattle.naming.proofs.Starts.{kind-read}
-use Rattle.queries.specs.Queries.{acceptance, start_of}
+use Rattle.queries.specs.Queries.{start_of}
 use Rattle.messages.specs.Layout.{is_value_carrier}
-use Rattle.judging.specs.Judging.{element_for, object_for, properties_in, triggers_in, error_of_object, error_of, judge_number, judge_error}
+use Rattle.judging.specs.Judging.{element_for, object_for, properties_in, triggers_in, error_of_object, error_of}
 use Rattle.judging.proofs.Found.{element-listed, object-listed, start-of}
 
 -- ---- the error byte, by the element and the object that have been found

@@ -7,7 +7,7 @@ use lib.ListN.{length, get_or}
 use Rattle.views.specs.Fields.{element_of, entry_of}
 use Rattle.pool.specs.Walk.{entries_of}
 use Rattle.pool.proofs.Starts.{entries-long}
-use Rattle.naming.specs.Naming.{first_of, element_key, named, tag_of}
+use Rattle.naming.specs.Naming.{element_key, named, tag_of}
 use Rattle.naming.proofs.First.{Without, to_none, to-first, first-le}
 use Rattle.naming.proofs.Starts.{start-read, named-listed}
 use Rattle.queries.specs.Queries.{start_of}

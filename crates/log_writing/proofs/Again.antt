@@ -1,8 +1,8 @@
 -- What is read is written again byte for byte. Assumes nothing.
-use mathlib.Core.Path.{◌≡◌, refl, sym, ap, subst, ◌∙◌}
+use mathlib.Core.Path.{◌≡◌, refl, sym, ap, ◌∙◌}
 use mathlib.Core.Bool.{Bool, true, false, cond, ◌||◌}
 use mathlib.Core.List.{List, ◌++◌}
-use Prim.Native.Nat.{ℕ, zero, suc, ◌+◌, ◌≤◌, ◌<◌}
+use Prim.Native.Nat.{ℕ, ◌+◌, ◌≤◌}
 use native.Mathlib.Omega.{arith}
 use borrow.Author.Tests.{eqb-true, eqb-false, le-ltb}
 use lib.Dec.{eqb, ltb}
@@ -12,13 +12,13 @@ use lib.Seq.{sets, sets-eq, length-sets, length-take-le}
 use Rattle.wire.specs.Bytes.{Octets}
 use Rattle.time_log.specs.Layout.{place_of, record_length}
 use Rattle.time_log.specs.Contents.{fields_at, values_counted, ordinals_at, values_at}
-use Rattle.time_log.specs.Judging.{one_over, refusal_of_fields, record_refusal}
+use Rattle.time_log.specs.Judging.{record_refusal}
 use Rattle.time_log.specs.declared.Fields.{Fields}
-use Rattle.log_reading.specs.Reading.{read_refusal, refused_by, whole_record, read_of, ordinals_after, values_after}
+use Rattle.log_reading.specs.Reading.{read_refusal, refused_by, whole_record, read_of}
 use Rattle.log_reading.specs.declared.Record.{Record}
 use Rattle.log_reading.proofs.Prefix.{granted}
 use Rattle.log_reading.proofs.Answers.{neither, after-success}
-use Rattle.log_writing.specs.Writing.{kept_fields, write_refusal, written_as, bytes_after}
+use Rattle.log_writing.specs.Writing.{write_refusal, written_as, bytes_after}
 use Rattle.log_writing.specs.Again.{WrittenAgain}
 use Rattle.log_writing.proofs.Outcomes.{writable, written}
 use Rattle.log_writing.proofs.Parts.{kept_same, ordinals-first, record-again}

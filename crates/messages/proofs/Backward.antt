@@ -5,19 +5,16 @@ use mathlib.Core.List.{List, [], ◌∷◌, ◌++◌}
 use Prim.Native.Nat.{ℕ, zero, suc, ◌+◌, ◌*◌, ◌/◌, ◌%◌, ◌^◌, ◌≤◌, ◌<◌}
 use native.Mathlib.Omega.{arith}
 use native.Mathlib.Nat.{mod-eq_of_lt}
-use mir.Val.{SFits}
-use mir.Syntax.{w32}
-use borrow.Author.Tests.{ltb-false, leb-true, eqb-true, eqb-false, le-ltb}
-use lib.Dec.{eqb, ltb, leb}
-use lib.IntN.{ℤ, pos}
-use lib.ListN.{length, get_or, take, drop}
-use lib.Seq.{sets}
+use borrow.Author.Tests.{ltb-false, eqb-true}
+use lib.Dec.{eqb, ltb}
+use lib.IntN.{ℤ}
+use lib.ListN.{length, get_or, take}
 use lib.Signed.{mag}
 use Rattle.wire.specs.Bytes.{Octets, le_of, bytes_of, number_in, signed_of, bits_of}
-use Rattle.wire.proofs.Width.{back, bytes-long}
+use Rattle.wire.proofs.Width.{back}
 use Rattle.wire.proofs.Complement.{bits_small, signed-bits}
 use Rattle.messages.specs.Layout.{is_value_carrier, head_bytes, value_bytes, acknowledge_bytes, acknowledge}
-use Rattle.messages.specs.Reading.{Fields, valued, acknowledged, refused, read_of}
+use Rattle.messages.specs.Reading.{Fields, valued, acknowledged, read_of}
 use Rattle.messages.specs.Writing.{value_refusal, value_after, acknowledge_refusal, acknowledge_after}
 use Rattle.messages.specs.Back.{ReadsBack}
 use Rattle.messages.proofs.Laying.{command-small, first-eight}

@@ -1,6 +1,6 @@
 -- What is written reads back the same, and what is read is written back the same except for the bits that are ignored.
 -- Definitions only.
-use Rattle.std.specs.Prelude.{ℕ, ◌+◌, ◌%◌, ◌^◌, ◌≤◌, ◌<◌, ◌≡◌, true, List, [], ◌∷◌, ◌++◌, ℤ, length, get_or, take, drop}
+use Rattle.std.specs.Prelude.{ℕ, ◌+◌, ◌%◌, ◌^◌, ◌<◌, ◌≡◌, true, List, [], ◌∷◌, ◌++◌, ℤ, length, get_or, take}
 use Rattle.std.specs.Int.Signed.{mag}
 use Rattle.wire.specs.Bytes.{Octets}
 use Rattle.messages.specs.Layout.{is_value_carrier, value_bytes, acknowledge_bytes}

@@ -8,7 +8,7 @@ use native.Mathlib.Omega.{arith}
 use borrow.Author.Tests.{ne_eqb}
 use lib.Dec.{eqb}
 use Rattle.naming.specs.Naming.{first_of}
-use Rattle.naming.proofs.First.{Without, to-first, to_none}
+use Rattle.naming.proofs.First.{Without, to-first}
 
 pub none_yet : (key : ℕ → ℕ) (x : ℕ) → Without key x 0
 none_yet key x j h e = absurd (omega arith)

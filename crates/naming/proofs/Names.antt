@@ -1,6 +1,6 @@
 -- What the lists say about the records of a list of starts. Assumes nothing.
-use mathlib.Core.Path.{◌≡◌, refl, sym, ap, ◌∙◌}
-use mathlib.Core.Bool.{Bool, true, false, not}
+use mathlib.Core.Path.{◌≡◌, sym, ap, ◌∙◌}
+use mathlib.Core.Bool.{not}
 use mathlib.Core.List.{List}
 use Prim.Native.Nat.{ℕ, suc, ◌+◌, ◌-◌, ◌≤◌, ◌<◌}
 use native.Mathlib.Numerals.{add-one}
@@ -8,11 +8,11 @@ use native.Mathlib.Omega.{arith}
 use lib.Dec.{eqb}
 use lib.ListN.{length, get_or}
 use Rattle.pool.specs.Walk.{entries_of, Divided}
-use Rattle.pool.proofs.Starts.{entries-long, starts-few}
+use Rattle.pool.proofs.Starts.{starts-few}
 use Rattle.naming.specs.Records.{id_at}
 use Rattle.naming.specs.Naming.{first_of, named}
 use Rattle.naming.specs.Lists.{id_in}
-use Rattle.naming.specs.Chained.{opens, Names}
+use Rattle.naming.specs.Chained.{Names}
 use Rattle.naming.proofs.Starts.{id-read, first_read, named-listed}
 use Rattle.naming.proofs.Chained.{opens-first, unmarked}
 

@@ -1,22 +1,18 @@
 -- What a walk's answer means for reading. Assumes nothing.
 use mathlib.Core.Path.{◌≡◌, refl, sym, ap, ◌∙◌}
-use mathlib.Core.Logic.{⊎_elim}
 use mathlib.Core.Bool.{Bool, true, false, cond}
-use mathlib.Core.List.{List, [], ◌∷◌, map}
-use Prim.Native.Nat.{ℕ, zero, suc, ◌+◌, ◌*◌, ◌≤◌, ◌<◌}
+use mathlib.Core.List.{List}
+use Prim.Native.Nat.{ℕ, suc, ◌+◌, ◌*◌, ◌≤◌, ◌<◌}
 use native.Mathlib.Omega.{arith}
 use borrow.Author.Tests.{lt-ltb, le-ltb, eq-eqb, ne_eqb, eqb-false, ltb-false}
-use denote.Enum.Declared.{tag_of}
 use lib.Dec.{eqb, ltb}
 use lib.ListN.{length, take}
 use lib.Seq.{length-take-le}
-use types.Run.{OneOf}
 use Rattle.pool.specs.Answer.{Answer, answer, answer_of}
-use Rattle.pool.specs.Reading.{Entry, Scan, records, refused, scan_of, entries_in, counted, read_of}
+use Rattle.pool.specs.Reading.{Scan, records, refused, scan_of, entries_in, counted, read_of}
 use Rattle.pool.specs.Walk.{count_from, entries_of, Starts, Listed}
 use Rattle.pool.specs.declared.Outcome.{Outcome}
 use Rattle.pool.specs.declared.Outcome.TheVariants.{Records, Empty, TooLong, NoMark, Cut, LengthOver, TooMany, TableShort}
-use Rattle.pool.specs.contracts.Outcome.{the_type}
 use Rattle.pool.proofs.Steps.{refusal-number, Proper, scan-proper, few-records}
 
 pub read-empty : (p : List ℕ) (room : ℕ) → length p ≡ 0 → read_of p room ≡ answer 1 0

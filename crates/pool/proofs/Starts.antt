@@ -1,7 +1,7 @@
 -- The records of a list of starts. Assumes nothing.
 use mathlib.Core.Path.{◌≡◌, refl, sym, ap, subst, ◌∙◌}
 use mathlib.Core.List.{List, [], ◌∷◌, ◌++◌}
-use Prim.Native.Nat.{ℕ, zero, suc, ◌+◌, ◌-◌, ◌*◌, ◌≤◌, ◌<◌}
+use Prim.Native.Nat.{ℕ, zero, suc, ◌+◌, ◌-◌, ◌≤◌, ◌<◌}
 use native.Mathlib.Nat.{not-suc-le-zero}
 use native.Mathlib.Decide.{dec_lt}
 use native.Mathlib.Omega.{arith}
@@ -14,7 +14,7 @@ use Rattle.records.specs.declared.Mark.{Mark}
 use Rattle.records.specs.declared.Mark.TheVariants.{Of, Unknown}
 use Rattle.records.specs.declared.Extent.TheVariants.{Ends, Cut}
 use Rattle.records.proofs.Range.{cut-ends, unmarked-ends, guarded}
-use Rattle.pool.specs.Reading.{Entry, entry_at, records, scan_of}
+use Rattle.pool.specs.Reading.{Entry, entry_at, scan_of}
 use Rattle.pool.specs.Walk.{entries_after, entries_of, Divided}
 use Rattle.pool.proofs.Steps.{Remaining, next_of, none_left, few-records}
 

@@ -3,7 +3,7 @@ use mathlib.Core.Path.{◌≡◌, refl, sym, ap, subst, ◌∙◌}
 use mathlib.Core.List.{List}
 use Prim.Native.Nat.{ℕ, zero, suc, ◌+◌, ◌-◌, ◌<◌, ◌≤◌}
 use native.Mathlib.Omega.{arith}
-use borrow.Author.Tests.{eq-eqb, ne_eqb}
+use borrow.Author.Tests.{ne_eqb}
 use lib.ListN.{length, get_or, take, replicate}
 use lib.Seq.{get_or-take, length-take-le}
 use Rattle.records.specs.Layout.{mark_code, mark_of, three}
@@ -19,7 +19,7 @@ use Rattle.naming.proofs.First.{first_some, first-le}
 use Rattle.naming.proofs.Starts.{start-read, kind-is}
 use Rattle.checker.specs.Checking.{records_in, check_of}
 use Rattle.checker.specs.declared.Verdict.{Verdict}
-use Rattle.queries.specs.Queries.{refusal_in, acceptance, asked_text, carrier, text_of_record, text_number, text_span, Finds, device_in, padded, if_accepted, Labelled, structure_label, localization_label, extended_text, extended_label, extended_count}
+use Rattle.queries.specs.Queries.{refusal_in, acceptance, asked_text, carrier, text_number, text_span, Finds, device_in, padded, if_accepted, Labelled, structure_label, localization_label, extended_text, extended_label, extended_count}
 use Rattle.queries.specs.Parts.{FindsAmong, CheckedBy, LabelledBy}
 use Rattle.queries.specs.declared.Place.{Place}
 use Rattle.queries.specs.declared.DeviceLabels.{DeviceLabels}

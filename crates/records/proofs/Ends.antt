@@ -1,5 +1,5 @@
 -- Where a field ends, case by case. Assumes nothing.
-use mathlib.Core.Path.{◌≡◌, refl, sym, ap, ◌∙◌}
+use mathlib.Core.Path.{◌≡◌}
 use mathlib.Core.List.{List}
 use Prim.Native.Nat.{ℕ, ◌+◌, ◌*◌, ◌≤◌, ◌<◌}
 use native.Mathlib.Omega.{arith}
@@ -8,7 +8,7 @@ use lib.ListN.{length, get_or}
 use Rattle.wire.specs.Bytes.{number_in}
 use Rattle.records.specs.Layout.{fixed, text, entries, mark_of, three}
 use Rattle.records.specs.Extents.{field_end, marked_end, extent_of}
-use Rattle.records.specs.declared.Extent.TheVariants.{Ends, NoMark, Cut, LengthOver}
+use Rattle.records.specs.declared.Extent.TheVariants.{Ends, Cut, LengthOver}
 
 module _ (n : ℕ) (p : List ℕ) (at : ℕ) where
   pub fixed-cut : length p < at + n → field_end (fixed n) p at ≡ Cut

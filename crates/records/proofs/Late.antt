@@ -1,18 +1,17 @@
 -- Testing late gives the same extents: one law over every layout. Assumes nothing.
-use mathlib.Core.Path.{◌≡◌, refl, sym, ap, ◌∙◌}
+use mathlib.Core.Path.{◌≡◌, refl, sym, ◌∙◌}
 use mathlib.Core.Bool.{Bool, true, false, cond}
 use mathlib.Core.List.{List, [], ◌∷◌}
 use Prim.Native.Nat.{ℕ, ◌+◌, ◌*◌, ◌≤◌, ◌<◌}
 use native.Mathlib.Omega.{arith}
-use borrow.Author.Tests.{le-leb, lt-leb, le-ltb, lt-ltb, leb-true, leb-false, ltb-true, ltb-false}
+use borrow.Author.Tests.{le-leb, lt-leb, le-ltb, leb-true, leb-false}
 use lib.Dec.{leb, ltb}
 use lib.ListN.{length, get_or}
 use Rattle.wire.specs.Bytes.{number_in}
 use Rattle.records.specs.Layout.{Field, fixed, text, entries}
-use Rattle.records.specs.Extents.{field_end, next, fields_end}
-use Rattle.records.specs.Late.{late_field, late_next, late_fields, closed}
-use Rattle.records.specs.declared.Extent.{Extent}
-use Rattle.records.specs.declared.Extent.TheVariants.{Ends, NoMark, Cut, LengthOver}
+use Rattle.records.specs.Extents.{field_end, fields_end}
+use Rattle.records.specs.Late.{late_fields, closed}
+use Rattle.records.specs.declared.Extent.TheVariants.{Ends, Cut, LengthOver}
 use Rattle.records.proofs.Range.{stays, cut-ends, over-ends}
 
 -- a refusal passes through the fields behind it

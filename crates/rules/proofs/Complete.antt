@@ -19,7 +19,7 @@ use Rattle.pool.specs.Reading.{Entry}
 use Rattle.naming.specs.Records.{start_at, id_at, kind_at}
 use Rattle.naming.specs.Naming.{first_of, type_key, named, parent_of, climb, tag_of}
 use Rattle.naming.proofs.First.{to_none}
-use Rattle.rules.specs.Breach.{Is, Role, presentation}
+use Rattle.rules.specs.Breach.{Is, Role}
 use Rattle.rules.specs.Breach.{Text, device_designator, device_version, device_serial, element_designator, data_designator, property_designator, unit}
 use Rattle.rules.specs.Breach.{OutOfRange, structure, localization, closing, type, number, property_bit, both, trigger_bit, scale, decimals}
 use Rattle.rules.specs.Breach.{Refers, to_parent, to_entry, data_presentation, property_presentation}

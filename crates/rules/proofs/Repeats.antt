@@ -1,17 +1,16 @@
 -- A record whose key an earlier one has: rules 2, 3 and 8; a key that no record has: rules 10 and 11. Assumes nothing.
 use mathlib.Core.Path.{◌≡◌, refl, sym, ap, ◌∙◌}
-use mathlib.Core.Bool.{true, not}
+use mathlib.Core.Bool.{true}
 use mathlib.Core.List.{List}
 use Prim.Native.Nat.{ℕ, zero, suc, ◌<◌}
 use native.Mathlib.Decide.{ℕ_discrete, dec_lt}
 use native.Mathlib.Omega.{arith}
 use borrow.Author.Tests.{eq-eqb, ne_eqb}
-use lib.Dec.{eqb}
 use Rattle.views.specs.Fields.{element_of}
 use Rattle.pool.specs.Reading.{Entry}
 use Rattle.naming.specs.Records.{start_at, kind_at}
 use Rattle.naming.specs.Naming.{first_of, type_key}
-use Rattle.naming.proofs.First.{Without, first-none, first_some, to_none, to-first}
+use Rattle.naming.proofs.First.{Without, first-none, first_some}
 use Rattle.rules.specs.Table.{repeats, element_key}
 use Rattle.rules.proofs.Truth.{differ, to-differ}
 

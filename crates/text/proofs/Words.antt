@@ -1,11 +1,11 @@
 -- Eight bytes read as one word, and what that shows about which of them are below 0x80. Assumes nothing.
-use mathlib.Core.Path.{◌≡◌, refl, sym, ap, ap₂, ◌∙◌}
+use mathlib.Core.Path.{◌≡◌, refl, ap, ap₂, ◌∙◌}
 use mathlib.Core.List.{List}
 use Prim.Native.Nat.{ℕ, zero, suc, ◌+◌, ◌*◌, ◌-◌, ◌≤◌, ◌<◌}
 use native.Mathlib.Decide.{dec_lt}
 use native.Mathlib.Nat.{add-zero, add_comm}
 use native.Mathlib.Omega.{arith}
-use lib.Bits.{bit_and, and_block, and_lt, and_zero_r}
+use lib.Bits.{bit_and, and_block, and_lt}
 use lib.ListN.{length, get_or, take, drop, get_or-eq_default, length-take}
 use lib.Seq.{get_or-drop, get_or-take}
 use Rattle.wire.specs.Bytes.{le_of}

@@ -1,5 +1,5 @@
 -- A sound text: document 01, rule 4. Definitions only.
-use Rattle.std.specs.Prelude.{ℕ, ◌≤◌, ◌≡◌, Bool, true, false, cond, ◌&&◌, List, [], ◌∷◌, ◌++◌, ◌↔◌, eqb, leb, get_or}
+use Rattle.std.specs.Prelude.{ℕ, ◌≤◌, ◌≡◌, Bool, true, false, cond, ◌&&◌, List, ◌∷◌, ◌↔◌, eqb, leb, get_or}
 use Rattle.text.specs.Grammar.{Text}
 use Rattle.text.specs.Characters.{characters_in}
 use Rattle.text.specs.Characters.{Counted, Characters, Malformed}

@@ -1,5 +1,5 @@
 -- The rows of RFC 3629, section 4: the ranges of a character's bytes. Definitions only.
-use Rattle.std.specs.Prelude.{ℕ, Bool, true, false, cond, ◌&&◌, leb}
+use Rattle.std.specs.Prelude.{ℕ, Bool, cond, ◌&&◌, leb}
 
 -- a byte within a range, both limits included
 abbrev pub within : ℕ → ℕ → ℕ → Bool

@@ -1,14 +1,12 @@
 -- The laws of numbers as bytes, at every width. Assumes nothing.
-use mathlib.Core.Path.{◌≡◌, refl, sym, ap, ap₂, ◌∙◌, subst}
-use mathlib.Core.List.{List, [], ◌∷◌, ◌++◌, append_assoc}
+use mathlib.Core.Path.{◌≡◌, refl, sym, ap, ◌∙◌}
+use mathlib.Core.List.{List, append_assoc}
 use Prim.Native.Nat.{ℕ, zero, suc, ◌+◌, ◌*◌, ◌-◌, ◌/◌, ◌%◌, ◌^◌, ◌<◌, ◌≤◌, zero-le}
-use native.Mathlib.Nat.{pow-suc, pow-zero, mul_comm, mod-one, zero-lt-suc, le_trans, lt_of_lt_of_le, le_of_suc-le-suc, pow-le-pow_right}
+use native.Mathlib.Nat.{pow-suc, mod-one, zero-lt-suc, pow-le-pow_right}
 use native.Mathlib.Omega.{arith}
-use lib.Arith.{mod-mul, digits_div, digits_mod}
-use lib.Dec.{lit≤, T, leb}
-use lib.ListN.{length, get_or, set, take, drop, length-append, length-drop, drop_of_length-le}
+use lib.Arith.{mod-mul}
+use lib.ListN.{length, get_or, set, take, drop, length-drop, drop_of_length-le}
 use lib.Seq.{drop-cons, sets, sets-eq, drop_at, take_at, length-take-le, take-nil, take_all}
-use lib.Pow.{pow-add}
 use Rattle.wire.specs.Bytes.{le_of, bytes_of, number_in}
 
 -- one byte more in front

@@ -13,7 +13,7 @@ use Rattle.records.specs.Places.{field_at, id_of, parent_id_of}
 use Rattle.records.specs.declared.Kind.TheVariants.{Det}
 use Rattle.records.proofs.Range.{parent-within}
 use Rattle.pool.specs.Answer.{Answer, answer, answer_of, records_in}
-use Rattle.pool.specs.Reading.{Entry, entry_at, Scan, records, scan_of, entries_in, read_of}
+use Rattle.pool.specs.Reading.{Entry, entry_at, Scan, scan_of, entries_in, read_of}
 use Rattle.pool.specs.Walk.{entries_of, Divided, Listed}
 use Rattle.pool.specs.declared.Outcome.{Outcome}
 use Rattle.pool.specs.declared.Outcome.TheVariants.{Records, Empty, TooLong, NoMark, Cut, LengthOver, TooMany, TableShort}

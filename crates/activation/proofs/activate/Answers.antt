@@ -1,5 +1,5 @@
 -- `activation::activate`: the list that activating leaves gives the table of the pool that was checked, if one was.
-use Rattle.std.proofs.Common.{◌≡◌, ℕ, ◌∙◌, ap, length}
+use Rattle.std.proofs.Common.{ℕ, ◌∙◌, ap, length}
 use Rattle.session.specs.Calls.{step_of}
 use Rattle.working_table.specs.Rows.{gathered}
 use Rattle.activation.proofs.Filled.{records-filled}

@@ -7,7 +7,6 @@ use Rattle.session.specs.Calls.{step_of}
 use Rattle.activation.specs.Activating.{activate_of, is_checked, kept_after}
 use Rattle.activation.specs.Rows.{records_for}
 use Rattle.session.proofs.Arising.{sized}
-use borrow.Author.Rules.{rules}
 use Rattle.activation.proofs.activate_in.Goals as goal
 
 pub returns-then-is_impossible : goal.returns-then-is_impossible

@@ -1,7 +1,6 @@
 -- `activation::activate_kept` meets its contract: each return is a case of the definition.
 use borrow.Author.Tests.{eq-eqb, ne_eqb, lt-ltb, le-ltb}
 use Rattle.activation.specs.Activating.{kept_activated}
-use borrow.Author.Rules.{rules}
 use Rattle.activation.proofs.activate_kept.Goals as goal
 
 pub returns-then-s-eq0 : goal.returns-then-s-eq0

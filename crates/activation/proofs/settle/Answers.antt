@@ -3,7 +3,6 @@ use mathlib.Core.Path.{ap, ◌∙◌}
 use Rattle.activation.proofs.Settled.{too_short, unreadable, faulted, kept-now}
 use Rattle.session.specs.Answers.{reply_of}
 use Rattle.session.specs.Calls.{step_of}
-use borrow.Author.Rules.{rules}
 use Rattle.activation.proofs.settle.Goals as goal
 
 pub returns-then-number-eq7 : goal.returns-then-number-eq7

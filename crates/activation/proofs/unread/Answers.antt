@@ -2,7 +2,6 @@
 use native.Mathlib.Omega.{arith}
 use Prim.Native.Nat.{◌≤◌}
 use Rattle.checker.specs.Checking.{verdict_of}
-use borrow.Author.Rules.{rules}
 use Rattle.activation.proofs.unread.Goals as goal
 
 pub returns-in-Checked : goal.returns-in-Checked

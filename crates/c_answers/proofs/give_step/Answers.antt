@@ -1,7 +1,6 @@
 -- `c_answers::give_step` meets its contract: the session's own value, and the answer's own numbers.
 use mathlib.Core.Path.{ap}
 use Rattle.session.specs.Answers.{Reply}
-use borrow.Author.Rules.{rules}
 use Rattle.c_answers.proofs.give_step.Goals as goal
 
 pub returns : goal.returns

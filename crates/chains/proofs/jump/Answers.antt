@@ -1,6 +1,6 @@
 -- `chains::jump` meets its contract: for the numbers above r the steps are doubled.
 use native.Mathlib.Omega.{arith}
-use Rattle.chains.proofs.Jumping.{Jumping, jump-start, jump-more, jump_end}
+use Rattle.chains.proofs.Jumping.{jump-start, jump-more, jump_end}
 use Rattle.chains.proofs.jump.Goals as goal
 
 pub loop-r-init : goal.loop-r-init

@@ -1,6 +1,5 @@
 -- `chains::jump` meets its contract: for the numbers above r the steps are doubled.
-use native.Mathlib.Omega.{arith}
-use Rattle.chains.proofs.Jumping.{Jumping, jump-start, jump-more, jump_end}
+use Rattle.chains.proofs.Jumping.{Jumping}
 use Rattle.chains.proofs.jump.Given as goal
 
 abbrev pub invariant-loop-r : goal.invariant-loop-r

@@ -2,7 +2,6 @@
 use mathlib.Core.Path.{◌∙◌}
 use Prim.Native.Nat.{suc}
 use native.Mathlib.Omega.{arith}
-use borrow.Author.Rules.{rules}
 use Rattle.pool.specs.Walk.{entries_of}
 use Rattle.pool.proofs.Starts.{entries-long}
 use Rattle.naming.proofs.Lists.{blank, long}

@@ -1,13 +1,11 @@
 -- `chains::mark_left` meets its contract: among the records passed so far exactly these are marked.
 use mathlib.Core.Path.{◌≡◌, refl, sym, ap, ◌∙◌, subst}
-use mathlib.Core.Bool.{Bool, true, false, not}
-use mathlib.Core.Logic.{⊎_elim}
+use mathlib.Core.Bool.{true, false, not}
 use mathlib.Core.List.{List}
-use Prim.Native.Nat.{ℕ, suc, ◌+◌, ◌-◌, ◌≤◌}
+use Prim.Native.Nat.{ℕ, suc, ◌+◌}
 use native.Mathlib.Numerals.{add-one}
 use native.Mathlib.Omega.{arith}
 use borrow.Author.Tests.{eq-eqb, ne_eqb}
-use lib.Dec.{eqb}
 use lib.ListN.{length, get_or}
 use Rattle.chains.specs.Noted.{HitsMarked}
 use Rattle.chains.proofs.Noting.{marked_start, marked-pass, marked-hit, marked-is}
@@ -49,8 +47,8 @@ loop-i-preserved c =
     let Next : List ℕ → Type 0 = λ (m : List ℕ). (length m ≡ length a.marks.now) × HitsMarked (leaves a.ups.now) (l.i + 1) m in
     let on : Next c.if-ups-i-ne0.marks =
     elim c.if-ups-i-ne0.branch [
-      then-ups-i-ne0 w ↦ subst Next (sym w.marks-is) (w.mark.ensures.0 ∙ l.invariant.1, marked-hit (leaves a.ups.now) l.i l.marks l.invariant.2 (hit a.ups.now l.i w.if-ups-i-ne0.true) w.mark.new.marks w.mark.ensures.0 w.mark.ensures.1)
-    | else-ups-i-ne0 w ↦ subst Next (sym w.marks-is) (l.invariant.1, marked-pass (leaves a.ups.now) l.i l.marks l.invariant.2 (pass a.ups.now l.i w.if-ups-i-ne0.false))
+      | then-ups-i-ne0 w ↦ subst Next (sym w.marks-is) (w.mark.ensures.0 ∙ l.invariant.1, marked-hit (leaves a.ups.now) l.i l.marks l.invariant.2 (hit a.ups.now l.i w.if-ups-i-ne0.true) w.mark.new.marks w.mark.ensures.0 w.mark.ensures.1)
+      | else-ups-i-ne0 w ↦ subst Next (sym w.marks-is) (l.invariant.1, marked-pass (leaves a.ups.now) l.i l.marks l.invariant.2 (pass a.ups.now l.i w.if-ups-i-ne0.false))
     ] in
     (omega (arith, c.loop-i-test.true), on.0, on.1)
 

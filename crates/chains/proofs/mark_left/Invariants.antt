@@ -1,16 +1,11 @@
 -- `chains::mark_left` meets its contract: among the records passed so far exactly these are marked.
-use mathlib.Core.Path.{◌≡◌, refl, sym, ap, ◌∙◌, subst}
-use mathlib.Core.Bool.{Bool, true, false, not}
-use mathlib.Core.Logic.{⊎_elim}
+use mathlib.Core.Path.{◌≡◌}
+use mathlib.Core.Bool.{Bool, not}
 use mathlib.Core.List.{List}
-use Prim.Native.Nat.{ℕ, suc, ◌+◌, ◌-◌, ◌≤◌}
-use native.Mathlib.Numerals.{add-one}
-use native.Mathlib.Omega.{arith}
-use borrow.Author.Tests.{eq-eqb, ne_eqb}
+use Prim.Native.Nat.{ℕ, suc, ◌-◌, ◌≤◌}
 use lib.Dec.{eqb}
 use lib.ListN.{length, get_or}
 use Rattle.chains.specs.Noted.{HitsMarked}
-use Rattle.chains.proofs.Noting.{marked_start, marked-pass, marked-hit, marked-is}
 use Rattle.chains.proofs.mark_left.Given as goal
 
 -- something is left under the number of record i

@@ -1,18 +1,14 @@
 -- `chains::mark_numbers` meets its contract: the element numbers of the records passed so far are marked, and those of these records that repeat one.
 use mathlib.Core.Path.{◌≡◌, refl, sym, ◌∙◌, subst}
-use mathlib.Core.Bool.{Bool, ◌&&◌}
-use mathlib.Core.Logic.{⊎_elim}
 use mathlib.Core.List.{List}
-use Prim.Native.Nat.{ℕ, ◌+◌, ◌-◌, ◌≤◌}
+use Prim.Native.Nat.{ℕ, ◌+◌}
 use native.Mathlib.Omega.{arith}
 use borrow.Author.Tests.{eq-eqb}
-use lib.Dec.{eqb}
 use lib.ListN.{length}
-use Rattle.pool.specs.Reading.{Entry}
 use Rattle.pool.specs.Walk.{entries_of}
 use Rattle.naming.specs.Records.{kind_at}
-use Rattle.rules.specs.Table.{repeats, element_key}
-use Rattle.chains.specs.Noted.{Noted, HitsMarked}
+use Rattle.rules.specs.Table.{element_key}
+use Rattle.chains.specs.Noted.{HitsMarked}
 use Rattle.chains.proofs.Noting.{noted-start, marked_start, marked-pass, marked-hit, marked-is}
 use Rattle.chains.proofs.mark_numbers.Invariants.{repeated}
 use Rattle.chains.proofs.mark_numbers.Goals as goal
@@ -48,8 +44,8 @@ loop-i-preserved c =
     let Next : List ℕ → Type 0 = λ (m : List ℕ). (length m ≡ length a.marks.now) × HitsMarked (repeated a.p.now es) (l.i + 1) m in
     let on : Next c.if-repeats_number.marks =
     elim c.if-repeats_number.branch [
-      then-repeats_number w ↦ subst Next (sym w.marks-is) (w.mark.ensures.0 ∙ l.invariant.3, marked-hit (repeated a.p.now es) l.i l.marks l.invariant.4 (sym told.0 ∙ w.if-repeats_number.true) w.mark.new.marks w.mark.ensures.0 w.mark.ensures.1)
-    | else-repeats_number w ↦ subst Next (sym w.marks-is) (l.invariant.3, marked-pass (repeated a.p.now es) l.i l.marks l.invariant.4 (sym told.0 ∙ w.if-repeats_number.false))
+      | then-repeats_number w ↦ subst Next (sym w.marks-is) (w.mark.ensures.0 ∙ l.invariant.3, marked-hit (repeated a.p.now es) l.i l.marks l.invariant.4 (sym told.0 ∙ w.if-repeats_number.true) w.mark.new.marks w.mark.ensures.0 w.mark.ensures.1)
+      | else-repeats_number w ↦ subst Next (sym w.marks-is) (l.invariant.3, marked-pass (repeated a.p.now es) l.i l.marks l.invariant.4 (sym told.0 ∙ w.if-repeats_number.false))
     ] in
     (omega (arith, c.loop-i-test.true), c.repeats_number.auto.numbers ∙ l.invariant.1, told.1, on.0, on.1)
 

@@ -1,11 +1,8 @@
 -- `chains::mark_numbers` meets its contract: the element numbers of the records passed so far are marked, and those of these records that repeat one.
-use mathlib.Core.Path.{◌≡◌, refl, sym, ◌∙◌, subst}
+use mathlib.Core.Path.{◌≡◌}
 use mathlib.Core.Bool.{Bool, ◌&&◌}
-use mathlib.Core.Logic.{⊎_elim}
 use mathlib.Core.List.{List}
-use Prim.Native.Nat.{ℕ, ◌+◌, ◌-◌, ◌≤◌}
-use native.Mathlib.Omega.{arith}
-use borrow.Author.Tests.{eq-eqb}
+use Prim.Native.Nat.{ℕ, ◌-◌, ◌≤◌}
 use lib.Dec.{eqb}
 use lib.ListN.{length}
 use Rattle.pool.specs.Reading.{Entry}
@@ -13,7 +10,6 @@ use Rattle.pool.specs.Walk.{entries_of}
 use Rattle.naming.specs.Records.{kind_at}
 use Rattle.rules.specs.Table.{repeats, element_key}
 use Rattle.chains.specs.Noted.{Noted, HitsMarked}
-use Rattle.chains.proofs.Noting.{noted-start, marked_start, marked-pass, marked-hit, marked-is}
 use Rattle.chains.proofs.mark_numbers.Given as goal
 
 -- record i is a device element with the number of an earlier one

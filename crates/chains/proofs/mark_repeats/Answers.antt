@@ -1,6 +1,5 @@
 -- `chains::mark_repeats` meets its contract.
 use native.Mathlib.Omega.{arith}
-use borrow.Author.Rules.{rules}
 use Rattle.naming.proofs.Lists.{blank}
 use Rattle.chains.proofs.mark_repeats.Goals as goal
 

@@ -1,8 +1,7 @@
 -- `chains::parents` meets its contract: for the records with numbers below r the steps are stored.
-use mathlib.Core.Path.{◌≡◌, refl, sym, subst}
+use mathlib.Core.Path.{refl, sym, subst}
 use mathlib.Core.Bool.{not, ◌||◌}
-use mathlib.Core.Logic.{⊎_elim}
-use Prim.Native.Nat.{ℕ, ◌+◌, ◌-◌, ◌≤◌, ◌<◌}
+use Prim.Native.Nat.{ℕ, ◌+◌, ◌≤◌, ◌<◌}
 use native.Mathlib.Omega.{arith}
 use lib.Dec.{eqb}
 use lib.ListN.{length, set, length-set}
@@ -59,8 +58,8 @@ loop-r-preserved c =
       omega (arith, c.loop-r-test.true),
       simp length-set l.invariant.2,
       elim c.if-up-r.branch [
-        then-up-r w ↦ subst (λ (v : ℕ). Rising f (l.r + 1) (set l.ups l.r v) (l.left || not (eqb v 0))) (sym w.up-is) (rise-on f l.r l.ups l.left room l.invariant.3 c.parent_at-up.result parent w.if-up-r.true)
-      | else-up-r w ↦ subst (λ (v : ℕ). Rising f (l.r + 1) (set l.ups l.r v) (l.left || not (eqb v 0))) (sym w.up-is) (rise-once f l.r l.ups l.left room l.invariant.3 c.parent_at-up.result parent)
+        | then-up-r w ↦ subst (λ (v : ℕ). Rising f (l.r + 1) (set l.ups l.r v) (l.left || not (eqb v 0))) (sym w.up-is) (rise-on f l.r l.ups l.left room l.invariant.3 c.parent_at-up.result parent w.if-up-r.true)
+        | else-up-r w ↦ subst (λ (v : ℕ). Rising f (l.r + 1) (set l.ups l.r v) (l.left || not (eqb v 0))) (sym w.up-is) (rise-once f l.r l.ups l.left room l.invariant.3 c.parent_at-up.result parent)
       ],
     )
 

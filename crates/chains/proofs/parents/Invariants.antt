@@ -1,17 +1,10 @@
 -- `chains::parents` meets its contract: for the records with numbers below r the steps are stored.
-use mathlib.Core.Path.{◌≡◌, refl, sym, subst}
-use mathlib.Core.Bool.{not, ◌||◌}
-use mathlib.Core.Logic.{⊎_elim}
-use Prim.Native.Nat.{ℕ, ◌+◌, ◌-◌, ◌≤◌, ◌<◌}
-use native.Mathlib.Omega.{arith}
-use lib.Dec.{eqb}
-use lib.ListN.{length, set, length-set}
+use mathlib.Core.Path.{◌≡◌}
+use Prim.Native.Nat.{◌-◌, ◌≤◌}
+use lib.ListN.{length}
 use Rattle.pool.specs.Walk.{entries_of}
-use Rattle.pool.proofs.Starts.{entries-long}
 use Rattle.naming.specs.Naming.{parent_of}
-use Rattle.naming.proofs.Climb.{parent-zero}
-use Rattle.naming.proofs.Names.{names-some, names-few}
-use Rattle.chains.proofs.Jumping.{Rising, rise-start, rise-once, rise-on}
+use Rattle.chains.proofs.Jumping.{Rising}
 use Rattle.chains.proofs.parents.Given as goal
 
 abbrev pub invariant-loop-r : goal.invariant-loop-r

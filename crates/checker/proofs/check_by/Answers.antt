@@ -3,7 +3,6 @@ use mathlib.Core.Path.{sym, ap, ◌∙◌}
 use native.Mathlib.Omega.{arith}
 use Rattle.pool.specs.Answer.{answer_of}
 use Rattle.checker.proofs.Checked.{listed-room, listed-long, listed-divides, unnamed-left, counted, passed_on}
-use borrow.Author.Rules.{rules}
 use Rattle.checker.proofs.check_by.Goals as goal
 
 pub overflow_add-end : goal.overflow_add-end

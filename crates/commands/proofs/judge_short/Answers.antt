@@ -1,5 +1,5 @@
 -- `commands::judge_short`: the list that judging leaves gives the table after judging.
-use Rattle.std.proofs.Common.{◌≡◌, ℕ, ◌∙◌, ap}
+use Rattle.std.proofs.Common.{ℕ, ◌∙◌, ap}
 use mir.Syntax.{w32}
 use mir.ValLaws.{to_z-of_z}
 use Rattle.working_table.specs.Rows.{gathered}

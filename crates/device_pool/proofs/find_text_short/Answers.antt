@@ -1,5 +1,5 @@
 -- `device_pool::find_text_short`: the list that finding leaves gives the table after reading.
-use Rattle.std.proofs.Common.{◌≡◌, ℕ, ◌∙◌, ap, sym, subst, length}
+use Rattle.std.proofs.Common.{ℕ, ◌∙◌, ap, sym, subst, length}
 use Rattle.queries.specs.Queries.{Finds}
 use Rattle.working_table.specs.Rows.{gathered}
 use Rattle.checker.proofs.Tables.{check-gathers}

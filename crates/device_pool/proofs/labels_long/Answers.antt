@@ -1,5 +1,5 @@
 -- `device_pool::labels_long`: the list that labelling leaves gives the table after reading.
-use Rattle.std.proofs.Common.{◌≡◌, ℕ, ◌∙◌, ap, sym, subst, length}
+use Rattle.std.proofs.Common.{ℕ, ◌∙◌, ap, sym, subst, length}
 use Rattle.queries.specs.Queries.{Labelled}
 use Rattle.working_table.specs.Rows.{gathered}
 use Rattle.checker.proofs.Tables.{check-gathers}

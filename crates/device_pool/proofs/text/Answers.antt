@@ -17,7 +17,6 @@ text-found p room id r f = rw (f.from, f.to)
 start-found : (x : Bor (List ℕ)) (room id : ℕ) (r : Place) → Finds x.now room id r → place_in x (start_in x.now (span_of r)) ≡ place_in x (text_span x.now room id).from
 start-found x room id r f = ap (place_in x) (min-eq_left (le_trans f.ordered f.within) ∙ f.from)
 
-
 pub returns : goal.returns
 returns c =
     let a = c.args in

@@ -1,16 +1,12 @@
 -- `faults::put` meets its contract.
 use mathlib.Core.Path.{◌≡◌, refl, ◌∙◌}
-use mathlib.Core.List.{[], ◌∷◌}
-use mathlib.Core.Logic.{⊎_elim}
 use Prim.Native.Nat.{suc, ◌+◌, ◌*◌}
 use native.Mathlib.Numerals.{add-one, add-two}
 use native.Mathlib.Omega.{arith}
-use borrow.Author.Rules.{rules}
 use borrow.Author.Tests.{le-leb, lt-leb}
 use lib.ListN.{length, length-set}
 use Rattle.faults.specs.Faults.{fault, width}
-use Rattle.faults.specs.Emission.{put_at, puts, Emits}
-use Rattle.faults.proofs.Emission.{emits-length}
+use Rattle.faults.specs.Emission.{put_at, puts}
 use Rattle.faults.proofs.put.Goals as goal
 use Rattle.faults.proofs.put.Goals.{then-i-buffer, else-i-buffer}
 
@@ -36,7 +32,7 @@ returns c =
     let four : i + 4 ≡ suc (suc (suc (suc i))) = omega arith in
     let there : c.if-i-buffer.buffer ≡ put_at a.buffer.now a.count (fault a.number a.rule a.item) =
     elim c.if-i-buffer.branch [
-      then-i-buffer w ↦ w.buffer-is ∙ rw (le-leb (i + width) (length a.buffer.now) (omega (arith, w.if-i-buffer.true)), add-one i, add-two i, three, four)
-    | else-i-buffer w ↦ w.buffer-is ∙ rw (lt-leb (i + width) (length a.buffer.now) (omega (arith, w.if-i-buffer.false)))
+      | then-i-buffer w ↦ w.buffer-is ∙ rw (le-leb (i + width) (length a.buffer.now) (omega (arith, w.if-i-buffer.true)), add-one i, add-two i, three, four)
+      | else-i-buffer w ↦ w.buffer-is ∙ rw (lt-leb (i + width) (length a.buffer.now) (omega (arith, w.if-i-buffer.false)))
     ] in
     (record { laid = there; counted = refl }, omega arith)

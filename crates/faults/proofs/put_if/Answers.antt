@@ -1,7 +1,6 @@
 -- `faults::put_if` meets its contract.
 use mathlib.Core.Bool.{true, false}
 use native.Mathlib.Omega.{arith}
-use borrow.Author.Rules.{rules}
 use Rattle.faults.proofs.Emission.{emits_none, puts_one}
 use Rattle.faults.proofs.put_if.Goals as goal
 

@@ -1,7 +1,6 @@
 -- `field_rules::is_bad_label` meets its contract.
 use borrow.Author.Tests.{lt-ltb, le-ltb}
 use native.Mathlib.Omega.{arith}
-use borrow.Author.Rules.{rules}
 use Rattle.field_rules.proofs.is_bad_label.Goals as goal
 
 pub returns-then-j-lt13 : goal.returns-then-j-lt13

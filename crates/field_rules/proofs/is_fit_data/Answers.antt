@@ -1,5 +1,4 @@
 -- `field_rules::is_fit_data` meets its contract.
-use borrow.Author.Rules.{rules}
 use Rattle.field_rules.proofs.is_fit_data.Goals as goal
 
 pub returns : goal.returns

@@ -1,7 +1,6 @@
 -- `field_rules::is_unsound` meets its contract.
 use mathlib.Core.Path.{ap}
 use mathlib.Core.Bool.{not}
-use borrow.Author.Rules.{rules}
 use Rattle.rules.specs.Table.{unsound}
 use Rattle.field_rules.proofs.is_unsound.Goals as goal
 

@@ -1,7 +1,6 @@
 -- `field_rules::put_device` meets its contract.
 use native.Mathlib.Omega.{arith}
 use Rattle.faults.proofs.Emission.{puts_then}
-use borrow.Author.Rules.{rules}
 use Rattle.field_rules.proofs.put_device.Goals as goal
 
 pub returns : goal.returns

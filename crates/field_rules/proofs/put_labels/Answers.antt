@@ -2,7 +2,7 @@
 use native.Mathlib.Omega.{arith}
 use mathlib.Core.Path.{◌≡◌, subst}
 use mathlib.Core.List.{[], ◌∷◌}
-use Prim.Native.Nat.{ℕ, ◌-◌, ◌≤◌}
+use Prim.Native.Nat.{ℕ}
 use Rattle.faults.specs.Rows.{many}
 use Rattle.faults.specs.Emission.{Puts}
 use Rattle.faults.proofs.Emission.{puts-start, puts-turn, puts-few, puts-length}

@@ -1,11 +1,8 @@
 -- `field_rules::put_labels` meets its contract: item by item.
-use native.Mathlib.Omega.{arith}
-use mathlib.Core.Path.{◌≡◌, subst}
 use mathlib.Core.List.{[], ◌∷◌}
-use Prim.Native.Nat.{ℕ, ◌-◌, ◌≤◌}
+use Prim.Native.Nat.{◌-◌, ◌≤◌}
 use Rattle.faults.specs.Rows.{many}
 use Rattle.faults.specs.Emission.{Puts}
-use Rattle.faults.proofs.Emission.{puts-start, puts-turn, puts-few, puts-length}
 use Rattle.rules.specs.Table.{bad_label}
 use Rattle.field_rules.proofs.put_labels.Given as goal
 

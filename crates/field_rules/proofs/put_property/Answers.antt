@@ -1,5 +1,4 @@
 -- `field_rules::put_property` meets its contract.
-use borrow.Author.Rules.{rules}
 use Rattle.field_rules.proofs.put_property.Goals as goal
 
 pub returns : goal.returns

@@ -1,7 +1,6 @@
 -- `judging::bits_of` meets its contract: each return is a case of the definitions.
 use mathlib.Core.Path.{refl}
 use borrow.Author.Tests.{ne_eqb}
-use borrow.Author.Rules.{rules}
 use Rattle.judging.proofs.bits_of.Goals as goal
 
 pub returns-then-kind-eq3 : goal.returns-then-kind-eq3

@@ -1,15 +1,11 @@
 -- `judging::error_in` meets its contract: each return is a case of the definition.
-use mathlib.Core.Path.{◌≡◌, sym, ap, ◌∙◌}
-use Prim.Native.Nat.{ℕ, ◌-◌, ◌<◌}
+use mathlib.Core.Path.{sym, ◌∙◌}
 use native.Mathlib.Omega.{arith}
-use borrow.Author.Tests.{not-true, not-false}
-use lib.ListN.{length, get_or}
 use mir.Syntax.{w32}
 use mir.ValLaws.{to_z-of_z}
 use Rattle.pool.specs.Walk.{entries_of}
 use Rattle.naming.proofs.Names.{names-divided, names-some}
 use Rattle.judging.proofs.Erring.{no-command, element-missing, element-inside, object-inside, object-missing, object-found}
-use borrow.Author.Rules.{rules}
 use Rattle.judging.proofs.error_in.Goals as goal
 
 pub returns-then-not-carries_value : goal.returns-then-not-carries_value

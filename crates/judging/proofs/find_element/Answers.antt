@@ -1,8 +1,8 @@
 -- `judging::find_element` meets its contract: the walk skips the elements that have another number.
-use mathlib.Core.Path.{◌≡◌, refl, sym, ap, ◌∙◌}
+use mathlib.Core.Path.{◌≡◌, sym, ◌∙◌}
 use mathlib.Core.Bool.{cond}
 use mathlib.Core.List.{List}
-use Prim.Native.Nat.{ℕ, suc, ◌-◌, ◌≤◌, ◌<◌}
+use Prim.Native.Nat.{ℕ, suc, ◌<◌}
 use native.Mathlib.Omega.{arith}
 use borrow.Author.Tests.{eqb-true, eqb-false}
 use lib.Dec.{eqb}
@@ -12,11 +12,10 @@ use Rattle.records.specs.Layout.{mark_code, mark_of, three}
 use Rattle.pool.specs.Walk.{entries_of}
 use Rattle.pool.proofs.Starts.{entries-long, starts-few}
 use Rattle.naming.specs.Naming.{element_key}
-use Rattle.naming.proofs.First.{Without, to_none}
+use Rattle.naming.proofs.First.{to_none}
 use Rattle.naming.proofs.Looking.{none_yet, none_more, first_found}
 use Rattle.naming.proofs.Starts.{start-read, kind-is}
 use Rattle.judging.specs.Judging.{element_for}
-use borrow.Author.Rules.{rules}
 use Rattle.judging.proofs.find_element.Goals as goal
 
 -- the number by which record i is looked for, as it stands in the pool

@@ -1,22 +1,9 @@
 -- `judging::find_element` meets its contract: the walk skips the elements that have another number.
-use mathlib.Core.Path.{◌≡◌, refl, sym, ap, ◌∙◌}
-use mathlib.Core.Bool.{cond}
-use mathlib.Core.List.{List}
-use Prim.Native.Nat.{ℕ, suc, ◌-◌, ◌≤◌, ◌<◌}
-use native.Mathlib.Omega.{arith}
-use borrow.Author.Tests.{eqb-true, eqb-false}
-use lib.Dec.{eqb}
-use lib.ListN.{length, get_or}
-use Rattle.views.specs.Fields.{element_of}
-use Rattle.records.specs.Layout.{mark_code, mark_of, three}
+use Prim.Native.Nat.{suc, ◌-◌, ◌≤◌}
+use lib.ListN.{length}
 use Rattle.pool.specs.Walk.{entries_of}
-use Rattle.pool.proofs.Starts.{entries-long, starts-few}
 use Rattle.naming.specs.Naming.{element_key}
-use Rattle.naming.proofs.First.{Without, to_none}
-use Rattle.naming.proofs.Looking.{none_yet, none_more, first_found}
-use Rattle.naming.proofs.Starts.{start-read, kind-is}
-use Rattle.judging.specs.Judging.{element_for}
-use borrow.Author.Rules.{rules}
+use Rattle.naming.proofs.First.{Without}
 use Rattle.judging.proofs.find_element.Given as goal
 
 abbrev pub invariant-loop-i : goal.invariant-loop-i

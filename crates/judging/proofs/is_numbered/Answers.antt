@@ -5,7 +5,6 @@ use native.Mathlib.Decide.{ℕ_discrete}
 use native.Mathlib.Omega.{arith}
 use borrow.Author.Tests.{eq-eqb, ne_eqb}
 use lib.Dec.{eqb}
-use borrow.Author.Rules.{rules}
 use Rattle.views.specs.Fields.{element_of}
 use Rattle.judging.proofs.is_numbered.Goals as goal
 

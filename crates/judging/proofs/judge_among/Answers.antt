@@ -1,7 +1,6 @@
 -- `judging::judge_among` meets its contract.
 use mir.Syntax.{w32}
 use mir.ValLaws.{to_z-of_z}
-use borrow.Author.Rules.{rules}
 use Rattle.judging.proofs.judge_among.Goals as goal
 
 pub returns-then-starts-le1024 : goal.returns-then-starts-le1024

@@ -1,5 +1,5 @@
 -- `judging::judge_by` meets its contract.
-use mathlib.Core.Path.{◌≡◌, sym, ap, ◌∙◌}
+use mathlib.Core.Path.{sym, ap, ◌∙◌}
 use native.Mathlib.Omega.{arith}
 use lib.Seq.{length-take-le}
 use mir.Syntax.{w32}
@@ -7,7 +7,6 @@ use mir.ValLaws.{to_z-of_z}
 use Rattle.pool.specs.Answer.{Answer, answer_of}
 use Rattle.pool.proofs.Judged.{no-count}
 use Rattle.judging.proofs.Verdict.{too_large, unread, among-room, among-divided, judged-all}
-use borrow.Author.Rules.{rules}
 use Rattle.judging.proofs.judge_by.Goals as goal
 
 pub returns-then-element-gt4095 : goal.returns-then-element-gt4095

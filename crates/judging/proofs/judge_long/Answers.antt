@@ -4,7 +4,6 @@ use mir.Syntax.{w32}
 use mir.ValLaws.{to_z-of_z}
 use Rattle.pool.proofs.Starts.{starts-few}
 use Rattle.naming.proofs.Lists.{blank, long}
-use borrow.Author.Rules.{rules}
 use Rattle.judging.proofs.judge_long.Goals as goal
 
 pub name_ids-owned-requires : goal.name_ids-owned-requires

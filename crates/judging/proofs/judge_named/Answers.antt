@@ -1,10 +1,8 @@
 -- `judging::judge_named` meets its contract.
-use mathlib.Core.Path.{◌∙◌}
 use mir.Syntax.{w32}
 use mir.ValLaws.{to_z-of_z}
 use Rattle.pool.specs.Walk.{entries_of}
 use Rattle.judging.proofs.Verdict.{faulty, clean}
-use borrow.Author.Rules.{rules}
 use Rattle.judging.proofs.judge_named.Goals as goal
 
 pub returns-then-put_all-ne0 : goal.returns-then-put_all-ne0

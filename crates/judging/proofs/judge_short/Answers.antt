@@ -3,7 +3,6 @@ use native.Mathlib.Omega.{arith}
 use mir.Syntax.{w32}
 use mir.ValLaws.{to_z-of_z}
 use Rattle.naming.proofs.Lists.{blank, long}
-use borrow.Author.Rules.{rules}
 use Rattle.judging.proofs.judge_short.Goals as goal
 
 pub name_ids-owned-requires : goal.name_ids-owned-requires

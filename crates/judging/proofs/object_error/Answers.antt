@@ -3,7 +3,6 @@ use mathlib.Core.Path.{sym, ◌∙◌}
 use mir.Syntax.{w32}
 use mir.ValLaws.{to_z-of_z}
 use Rattle.judging.specs.Judging.{error_of_object}
-use borrow.Author.Rules.{rules}
 use Rattle.judging.proofs.object_error.Goals as goal
 
 pub returns-then-lacks_setting : goal.returns-then-lacks_setting

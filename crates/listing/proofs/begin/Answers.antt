@@ -1,7 +1,6 @@
 -- `listing::begin` meets its contract.
 use mathlib.Core.Path.{sym, ap, ◌∙◌}
 use native.Mathlib.Omega.{arith}
-use borrow.Author.Rules.{rules}
 use Rattle.records.specs.Layout.{mark}
 use Rattle.listing.specs.Lines.{letters}
 use Rattle.listing.proofs.Adding.{no-mark}

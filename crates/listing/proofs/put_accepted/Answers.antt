@@ -1,5 +1,4 @@
 -- `listing::put_accepted` meets its contract.
-use borrow.Author.Rules.{rules}
 use Rattle.listing.specs.Lines.{accepted_line}
 use Rattle.listing.proofs.put_accepted.Goals as goal
 

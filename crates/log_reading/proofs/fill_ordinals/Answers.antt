@@ -1,12 +1,9 @@
 -- `log_reading::fill_ordinals` meets its contract: the list with the ordinals that are still to be stored is the final one.
-use mathlib.Core.Path.{◌≡◌, refl, ◌∙◌}
-use Prim.Native.Nat.{◌+◌, ◌*◌, ◌-◌, ◌≤◌}
+use mathlib.Core.Path.{refl}
 use native.Mathlib.Nat.{sub-zero}
 use native.Mathlib.Numerals.{add-one}
 use native.Mathlib.Omega.{arith}
-use lib.ListN.{length, length-set}
-use lib.Seq.{sets}
-use Rattle.time_log.specs.Contents.{spaced}
+use lib.ListN.{length-set}
 use Rattle.log_reading.proofs.Runs.{spaced-step, spaced-done}
 use Rattle.log_reading.proofs.fill_ordinals.Goals as goal
 

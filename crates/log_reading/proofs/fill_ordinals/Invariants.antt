@@ -1,13 +1,9 @@
 -- `log_reading::fill_ordinals` meets its contract: the list with the ordinals that are still to be stored is the final one.
-use mathlib.Core.Path.{◌≡◌, refl, ◌∙◌}
+use mathlib.Core.Path.{◌≡◌}
 use Prim.Native.Nat.{◌+◌, ◌*◌, ◌-◌, ◌≤◌}
-use native.Mathlib.Nat.{sub-zero}
-use native.Mathlib.Numerals.{add-one}
-use native.Mathlib.Omega.{arith}
-use lib.ListN.{length, length-set}
+use lib.ListN.{length}
 use lib.Seq.{sets}
 use Rattle.time_log.specs.Contents.{spaced}
-use Rattle.log_reading.proofs.Runs.{spaced-step, spaced-done}
 use Rattle.log_reading.proofs.fill_ordinals.Given as goal
 
 abbrev pub invariant-loop-i : goal.invariant-loop-i

@@ -1,16 +1,9 @@
 -- `log_reading::fill_values` meets its contract: the list with the values that are still to be stored is the final one.
-use mathlib.Core.Path.{◌≡◌, refl, ◌∙◌}
+use mathlib.Core.Path.{◌≡◌}
 use Prim.Native.Nat.{◌+◌, ◌*◌, ◌-◌, ◌≤◌}
-use native.Mathlib.Nat.{sub-zero}
-use native.Mathlib.Numerals.{add-one}
-use native.Mathlib.Omega.{arith}
-use borrow.Author.Rules.{rules}
-use mir.Syntax.{w32}
-use mir.ValLaws.{to_z-of_z}
-use lib.ListN.{length, length-set}
+use lib.ListN.{length}
 use lib.Seq.{sets}
 use Rattle.time_log.specs.Contents.{signed_from}
-use Rattle.log_reading.proofs.Runs.{signed-step, signed-done}
 use Rattle.log_reading.proofs.fill_values.Given as goal
 
 abbrev pub invariant-loop-i : goal.invariant-loop-i

@@ -1,7 +1,6 @@
 -- `log_reading::read_record` meets its contract: each return is a case of the definition.
-use mathlib.Core.Path.{◌≡◌, sym, ◌∙◌}
+use mathlib.Core.Path.{sym, ◌∙◌}
 use native.Mathlib.Omega.{arith}
-use borrow.Author.Rules.{rules}
 use Rattle.time_log.specs.Layout.{record_length}
 use Rattle.time_log.proofs.Parts.{place-small}
 use Rattle.time_log.proofs.Refusals.{not-a-layout, ends-early, ends-inside, whole-record}

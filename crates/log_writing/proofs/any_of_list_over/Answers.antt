@@ -1,11 +1,8 @@
 -- `log_writing::any_of_list_over` meets its contract: what is found so far and the ordinals still to be looked at give the result.
-use mathlib.Core.Path.{◌≡◌, refl, sym, ◌∙◌}
-use mathlib.Core.Bool.{◌||◌}
-use Prim.Native.Nat.{◌+◌, ◌*◌, ◌-◌, ◌≤◌}
+use mathlib.Core.Path.{◌≡◌, refl, ◌∙◌}
+use Prim.Native.Nat.{◌+◌, ◌-◌}
 use native.Mathlib.Nat.{sub-zero}
 use native.Mathlib.Omega.{arith}
-use Rattle.time_log.specs.Contents.{spaced}
-use Rattle.time_log.specs.Judging.{one_over}
 use Rattle.time_log.proofs.Runs.{over-high}
 use Rattle.log_writing.proofs.Ordinals.{over-turn, over-end}
 use Rattle.log_writing.proofs.any_of_list_over.Goals as goal

@@ -1,13 +1,9 @@
 -- `log_writing::any_of_list_over` meets its contract: what is found so far and the ordinals still to be looked at give the result.
-use mathlib.Core.Path.{◌≡◌, refl, sym, ◌∙◌}
+use mathlib.Core.Path.{◌≡◌}
 use mathlib.Core.Bool.{◌||◌}
-use Prim.Native.Nat.{◌+◌, ◌*◌, ◌-◌, ◌≤◌}
-use native.Mathlib.Nat.{sub-zero}
-use native.Mathlib.Omega.{arith}
+use Prim.Native.Nat.{◌-◌, ◌≤◌}
 use Rattle.time_log.specs.Contents.{spaced}
 use Rattle.time_log.specs.Judging.{one_over}
-use Rattle.time_log.proofs.Runs.{over-high}
-use Rattle.log_writing.proofs.Ordinals.{over-turn, over-end}
 use Rattle.log_writing.proofs.any_of_list_over.Given as goal
 
 abbrev pub invariant-loop-i : goal.invariant-loop-i

@@ -1,7 +1,6 @@
 -- `log_writing::write_record` meets its contract: each return is a case of the definition.
 use mathlib.Core.Path.{◌≡◌, sym, ◌∙◌}
 use native.Mathlib.Omega.{arith}
-use borrow.Author.Rules.{rules}
 use lib.ListN.{length, take, length-set}
 use Rattle.time_log.specs.Layout.{record_length}
 use Rattle.time_log.specs.Judging.{one_over, refusal_of_fields}

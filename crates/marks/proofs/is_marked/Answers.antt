@@ -1,6 +1,5 @@
 -- `marks::is_marked` meets its contract.
 use mathlib.Core.Path.{refl}
-use borrow.Author.Rules.{rules}
 use Rattle.marks.specs.Bits.{bit, bit_at}
 use Rattle.marks.proofs.is_marked.Goals as goal
 

@@ -1,5 +1,4 @@
 -- `marks::mark` meets its contract.
-use borrow.Author.Rules.{rules}
 use lib.ListN.{length-set}
 use Rattle.marks.proofs.Marking.{marked-bit}
 use Rattle.marks.proofs.mark.Goals as goal

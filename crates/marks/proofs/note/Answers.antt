@@ -1,5 +1,4 @@
 -- `marks::note` meets its contract.
-use borrow.Author.Rules.{rules}
 use Rattle.marks.proofs.note.Goals as goal
 
 pub returns : goal.returns

@@ -1,8 +1,7 @@
 -- `messages::put_answer` meets its contract: four bytes, one after the other.
 use native.Mathlib.Omega.{arith}
-use Prim.Native.Nat.{ℕ, ◌+◌, ◌<◌, ◌≤◌}
-use lib.ListN.{length, set, length-set}
-use borrow.Author.Rules.{rules}
+use Prim.Native.Nat.{◌+◌}
+use lib.ListN.{set, length-set}
 use Rattle.messages.proofs.put_answer.Goals as goal
 
 pub bounds-to-5 : goal.bounds-to-5

@@ -1,12 +1,10 @@
 -- `messages::put_head` meets its contract: two bytes and a number, one after the other.
-use mathlib.Core.Path.{◌≡◌, ◌∙◌}
-use mathlib.Core.List.{List}
+use mathlib.Core.Path.{◌∙◌}
 use native.Mathlib.Omega.{arith}
-use Prim.Native.Nat.{ℕ, ◌+◌, ◌*◌, ◌/◌, ◌%◌, ◌<◌, ◌≤◌}
-use lib.ListN.{length, set, length-set}
+use Prim.Native.Nat.{◌+◌, ◌*◌, ◌/◌, ◌%◌}
+use lib.ListN.{set, length-set}
 use Rattle.messages.specs.Layout.{head_bytes}
 use Rattle.messages.proofs.Laying.{head-laid}
-use borrow.Author.Rules.{rules}
 use Rattle.messages.proofs.put_head.Goals as goal
 
 pub bounds-to-1 : goal.bounds-to-1

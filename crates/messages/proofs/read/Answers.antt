@@ -1,11 +1,10 @@
 -- `messages::read` meets its contract: each return is a case of the definition.
-use mathlib.Core.Path.{◌≡◌, refl, sym, ◌∙◌}
+use mathlib.Core.Path.{sym, ◌∙◌}
 use native.Mathlib.Omega.{arith}
 use borrow.Author.Tests.{eq-eqb, ne_eqb}
 use mir.Syntax.{w32}
 use mir.ValLaws.{to_z-of_z}
 use Rattle.messages.specs.Reading.{read_of}
-use borrow.Author.Rules.{rules}
 use Rattle.messages.proofs.read.Goals as goal
 
 pub returns-then-bytes-ne8 : goal.returns-then-bytes-ne8

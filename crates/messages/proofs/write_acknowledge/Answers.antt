@@ -1,17 +1,15 @@
 -- `messages::write_acknowledge` meets its contract: each return is a case of the definition.
-use mathlib.Core.Path.{◌≡◌, refl, sym, ap, ◌∙◌}
-use mathlib.Core.List.{List, [], ◌∷◌}
-use Prim.Native.Nat.{ℕ, ◌+◌, ◌≤◌, ◌<◌}
+use mathlib.Core.Path.{refl, ◌∙◌}
+use mathlib.Core.List.{[], ◌∷◌}
+use Prim.Native.Nat.{◌+◌}
 use native.Mathlib.Omega.{arith}
 use borrow.Author.Tests.{lt-ltb, le-ltb, ltb-false}
 use lib.Dec.{ltb}
-use lib.ListN.{length}
 use lib.Seq.{length-sets}
 use Rattle.messages.specs.Layout.{head_bytes, acknowledge_bytes, acknowledge}
 use Rattle.messages.specs.Writing.{acknowledge_refusal, acknowledge_after}
 use Rattle.messages.proofs.Laying.{behind-head}
 use Rattle.wire.proofs.Either.{neither}
-use borrow.Author.Rules.{rules}
 use Rattle.messages.proofs.write_acknowledge.Goals as goal
 
 pub returns-then-element-answered : goal.returns-then-element-answered

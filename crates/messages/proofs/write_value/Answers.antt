@@ -1,17 +1,13 @@
 -- `messages::write_value` meets its contract: each return is a case of the definition.
-use mathlib.Core.Path.{◌≡◌, refl, sym, ◌∙◌}
-use mathlib.Core.Bool.{Bool, true, false, ◌&&◌, ◌||◌, true≢false}
-use Prim.Native.Nat.{ℕ, ◌+◌, ◌≤◌, ◌<◌}
+use mathlib.Core.Path.{refl, sym, ◌∙◌}
 use native.Mathlib.Omega.{arith}
-use borrow.Author.Tests.{lt-ltb, le-ltb, not-true, not-false}
-use lib.ListN.{length}
+use borrow.Author.Tests.{lt-ltb, le-ltb}
 use mir.Syntax.{w32}
 use mir.ValLaws.{to_z-of_z}
 use Rattle.wire.specs.Bytes.{bits_of}
-use Rattle.messages.specs.Layout.{is_value_carrier, value_bytes}
+use Rattle.messages.specs.Layout.{value_bytes}
 use Rattle.messages.specs.Writing.{value_refusal, value_after}
 use Rattle.messages.proofs.Laying.{value-laid, command-small}
-use borrow.Author.Rules.{rules}
 use Rattle.messages.proofs.write_value.Goals as goal
 
 pub returns-then-not-carries_value : goal.returns-then-not-carries_value

@@ -1,9 +1,9 @@
 -- `naming::are_owned` meets its contract.
-use mathlib.Core.Path.{◌≡◌, sym, ap, ◌∙◌}
+use mathlib.Core.Path.{sym, ap, ◌∙◌}
 use mathlib.Core.Bool.{true≢false}
 use Prim.Native.Nat.{◌-◌}
 use native.Mathlib.Omega.{arith}
-use borrow.Author.Tests.{not-false, eqb-true}
+use borrow.Author.Tests.{eqb-true}
 use lib.ListN.{length}
 use Rattle.pool.specs.Walk.{entries_of}
 use Rattle.naming.specs.Naming.{kind_of}

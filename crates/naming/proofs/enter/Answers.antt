@@ -4,7 +4,6 @@ use lib.ListN.{length}
 use Rattle.pool.proofs.Starts.{starts-few}
 use Rattle.naming.specs.Lists.{id_in}
 use Rattle.naming.proofs.Chained.{slot_lt, opens-shut, opens-new, entered-again, entered-first}
-use borrow.Author.Rules.{rules}
 use Rattle.naming.proofs.enter.Goals as goal
 
 pub returns-then-first-ne0 : goal.returns-then-first-ne0

@@ -1,10 +1,7 @@
 -- `naming::find` meets its contract: the walk is at 0 or at a record of the ID's slot, and the first record with the ID does
-use mathlib.Core.Path.{◌≡◌, sym, ◌∙◌}
-use Prim.Native.Nat.{suc, ◌-◌, ◌<◌}
-use native.Mathlib.Omega.{arith}
 use lib.ListN.{length}
 use Rattle.naming.specs.Lists.{id_in}
-use Rattle.naming.proofs.Chained.{slot_lt, Walks, walk_begins, walk-goes, walk-falls, walks-found, walks-out}
+use Rattle.naming.proofs.Chained.{Walks}
 use Rattle.naming.proofs.find.Given as goal
 
 -- not come after it. The number that it is at decreases. Assumes nothing.

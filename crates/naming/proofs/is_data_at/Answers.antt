@@ -1,12 +1,10 @@
 -- `naming::is_data_at` meets its contract.
-use mathlib.Core.Path.{◌≡◌, ap, ◌∙◌}
-use Prim.Native.Nat.{suc, ◌-◌, ◌<◌}
+use mathlib.Core.Path.{ap, ◌∙◌}
+use Prim.Native.Nat.{◌-◌}
 use native.Mathlib.Omega.{arith}
-use lib.ListN.{length}
 use Rattle.pool.proofs.Starts.{starts-marked}
 use Rattle.naming.specs.Naming.{is_data_kind}
 use Rattle.naming.proofs.Starts.{kind-read}
-use borrow.Author.Rules.{rules}
 use Rattle.naming.proofs.is_data_at.Goals as goal
 
 pub returns-then-number-eq0 : goal.returns-then-number-eq0

@@ -1,11 +1,9 @@
 -- `naming::kind_at` meets its contract.
-use mathlib.Core.Path.{◌≡◌, ◌∙◌}
-use Prim.Native.Nat.{suc, ◌-◌, ◌<◌}
+use mathlib.Core.Path.{◌∙◌}
+use Prim.Native.Nat.{◌-◌}
 use native.Mathlib.Omega.{arith}
-use lib.ListN.{length}
 use Rattle.pool.proofs.Starts.{starts-marked}
 use Rattle.naming.proofs.Starts.{kind-read}
-use borrow.Author.Rules.{rules}
 use Rattle.naming.proofs.kind_at.Goals as goal
 
 pub kind_number-requires : goal.kind_number-requires

@@ -1,14 +1,13 @@
 -- `naming::link_ids` meets its contract: after i records the lists are right for those.
-use mathlib.Core.Path.{◌≡◌, refl, sym, ap, ◌∙◌}
+use mathlib.Core.Path.{◌≡◌, refl, sym, ◌∙◌}
 use mathlib.Core.Bool.{true, true≢false}
 use mathlib.Core.Logic.{⊎_elim}
-use Prim.Native.Nat.{ℕ, ◌+◌, ◌-◌, ◌≤◌, ◌<◌}
+use Prim.Native.Nat.{ℕ, ◌+◌, ◌-◌, ◌<◌}
 use native.Mathlib.Nat.{eq-or-lt_of_le, not-suc-le-zero}
 use native.Mathlib.Omega.{arith}
-use borrow.Author.Tests.{not-false}
 use lib.ListN.{length}
 use Rattle.naming.specs.Lists.{id_in}
-use Rattle.naming.specs.Chained.{opens, Chained, Names}
+use Rattle.naming.specs.Chained.{opens, Names}
 use Rattle.naming.proofs.Chained.{chained-none}
 use Rattle.naming.proofs.link_ids.Invariants.{Opened}
 use Rattle.naming.proofs.link_ids.Goals as goal
@@ -44,8 +43,8 @@ loop-i-preserved c =
       c.enter.auto.next ∙ l.invariant.2,
       c.enter.ensures.1,
       elim c.if-not-enter.branch [
-        then-not-enter w ↦ λ t. absurd (true≢false (sym t ∙ w.distinct-is))
-      | else-not-enter w ↦ λ t. opened-more (id_in a.p.now a.starts.now) l.i (l.invariant.4 (sym w.distinct-is ∙ t)) (sym c.enter.ensures.0 ∙ w.if-not-enter.false)
+        | then-not-enter w ↦ λ t. absurd (true≢false (sym t ∙ w.distinct-is))
+        | else-not-enter w ↦ λ t. opened-more (id_in a.p.now a.starts.now) l.i (l.invariant.4 (sym w.distinct-is ∙ t)) (sym c.enter.ensures.0 ∙ w.if-not-enter.false)
       ],
     )
 

@@ -1,15 +1,10 @@
 -- `naming::link_ids` meets its contract: after i records the lists are right for those.
-use mathlib.Core.Path.{◌≡◌, refl, sym, ap, ◌∙◌}
-use mathlib.Core.Bool.{true, true≢false}
-use mathlib.Core.Logic.{⊎_elim}
-use Prim.Native.Nat.{ℕ, ◌+◌, ◌-◌, ◌≤◌, ◌<◌}
-use native.Mathlib.Nat.{eq-or-lt_of_le, not-suc-le-zero}
-use native.Mathlib.Omega.{arith}
-use borrow.Author.Tests.{not-false}
+use mathlib.Core.Path.{◌≡◌}
+use mathlib.Core.Bool.{true}
+use Prim.Native.Nat.{ℕ, ◌-◌, ◌≤◌, ◌<◌}
 use lib.ListN.{length}
 use Rattle.naming.specs.Lists.{id_in}
-use Rattle.naming.specs.Chained.{opens, Chained, Names}
-use Rattle.naming.proofs.Chained.{chained-none}
+use Rattle.naming.specs.Chained.{opens, Chained}
 use Rattle.naming.proofs.link_ids.Given as goal
 
 -- the first i records open their keys

@@ -9,7 +9,6 @@ use Rattle.pool.specs.Walk.{entries_of}
 use Rattle.naming.proofs.Starts.{start-read, named-listed}
 use Rattle.naming.proofs.Names.{names-divided}
 use Rattle.naming.proofs.Parents.{kind-some, parent-none, parent-some, parent-other}
-use borrow.Author.Rules.{rules}
 use Rattle.naming.proofs.parent_at.Goals as goal
 
 pub kind_at-requires : goal.kind_at-requires

@@ -3,7 +3,6 @@ use mathlib.Core.Path.{◌∙◌}
 use native.Mathlib.Omega.{arith}
 use Rattle.pool.proofs.Starts.{starts-marked}
 use Rattle.naming.proofs.Starts.{kind-is}
-use borrow.Author.Rules.{rules}
 use Rattle.naming.proofs.record_kind.Goals as goal
 
 pub marked_kind-requires : goal.marked_kind-requires

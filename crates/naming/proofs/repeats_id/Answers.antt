@@ -1,7 +1,6 @@
 -- `naming::repeats_id` meets its contract.
 use native.Mathlib.Omega.{arith}
 use Rattle.naming.proofs.Names.{names-room, first-unmarked}
-use borrow.Author.Rules.{rules}
 use Rattle.naming.proofs.repeats_id.Goals as goal
 
 pub bounds-next-i : goal.bounds-next-i

@@ -1,6 +1,6 @@
 -- `pool::list_for` meets its contract.
-use mathlib.Core.Path.{◌≡◌, refl, sym, ap, ◌∙◌}
-use Prim.Native.Nat.{◌≤◌, ◌<◌}
+use mathlib.Core.Path.{◌≡◌, sym, ap, ◌∙◌}
+use Prim.Native.Nat.{◌<◌}
 use native.Mathlib.Omega.{arith}
 use borrow.Author.Tests.{lt-ltb, le-ltb}
 use lib.ListN.{length}
@@ -8,7 +8,6 @@ use Rattle.pool.specs.Answer.{Answer, answer_of}
 use Rattle.pool.specs.Reading.{scan_of}
 use Rattle.pool.proofs.Steps.{scan-proper}
 use Rattle.pool.proofs.Judged.{read-empty, read-long, read_walk, walk-counted, walk_refused, unlisted, listed}
-use borrow.Author.Rules.{rules}
 use Rattle.pool.proofs.list_for.Goals as goal
 
 pub returns-then-p-eq0 : goal.returns-then-p-eq0

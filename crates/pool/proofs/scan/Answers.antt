@@ -1,14 +1,12 @@
 -- `pool::scan` meets its contract: the rest of the walk gives the answer of the whole walk, and the records listed and those
 use mathlib.Core.Path.{◌≡◌, refl, sym, ◌∙◌}
-use Prim.Native.Nat.{ℕ, ◌*◌, ◌-◌, ◌≤◌, ◌<◌}
+use Prim.Native.Nat.{ℕ, ◌<◌}
 use native.Mathlib.Omega.{arith}
-use borrow.Author.Rules.{rules}
 use lib.ListN.{length, length-set}
 use Rattle.records.proofs.Range.{extent-ends}
 use Rattle.pool.specs.Reading.{scan_of}
-use Rattle.pool.specs.Walk.{count_from}
-use Rattle.pool.proofs.Steps.{Standing, advance, stopped, finished}
-use Rattle.pool.proofs.Listing.{Listing, listing_start, listing-more, listing-end, listing-refused}
+use Rattle.pool.proofs.Steps.{advance, stopped, finished}
+use Rattle.pool.proofs.Listing.{listing_start, listing-more, listing-end, listing-refused}
 use Rattle.pool.proofs.scan.Goals as goal
 
 pub loop-at-init : goal.loop-at-init

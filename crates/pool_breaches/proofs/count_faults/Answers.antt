@@ -1,5 +1,4 @@
 -- `pool_breaches::count_faults` meets its contract.
-use borrow.Author.Rules.{rules}
 use Rattle.pool_breaches.proofs.count_faults.Goals as goal
 
 pub returns-then-starts-le1024 : goal.returns-then-starts-le1024

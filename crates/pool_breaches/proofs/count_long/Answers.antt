@@ -4,7 +4,6 @@ use Prim.Native.Nat.{ℕ}
 use lib.ListN.{length-replicate}
 use Rattle.pool.proofs.Starts.{starts-few}
 use Rattle.naming.proofs.Lists.{blank, long}
-use borrow.Author.Rules.{rules}
 use Rattle.pool_breaches.proofs.count_long.Goals as goal
 
 pub name_ids-owned-requires : goal.name_ids-owned-requires

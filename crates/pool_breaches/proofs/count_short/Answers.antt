@@ -3,7 +3,6 @@ use native.Mathlib.Omega.{arith}
 use Prim.Native.Nat.{ℕ}
 use lib.ListN.{length-replicate}
 use Rattle.naming.proofs.Lists.{blank, long}
-use borrow.Author.Rules.{rules}
 use Rattle.pool_breaches.proofs.count_short.Goals as goal
 
 pub name_ids-owned-requires : goal.name_ids-owned-requires

@@ -1,7 +1,6 @@
 -- `pool_breaches::is_again` meets its contract.
 use mathlib.Core.Path.{sym, ◌∙◌}
 use mathlib.Core.Bool.{true≢false}
-use borrow.Author.Rules.{rules}
 use Rattle.pool_breaches.proofs.is_again.Goals as goal
 
 pub is_marked-requires : goal.is_marked-requires

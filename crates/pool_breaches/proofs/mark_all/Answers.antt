@@ -1,6 +1,5 @@
 -- `pool_breaches::mark_all` meets its contract.
 use Rattle.naming.proofs.Names.{names-divided}
-use borrow.Author.Rules.{rules}
 use Rattle.pool_breaches.proofs.mark_all.Goals as goal
 
 pub mark_repeats-requires : goal.mark_repeats-requires

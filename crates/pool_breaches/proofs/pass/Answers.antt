@@ -5,7 +5,6 @@ use native.Mathlib.Omega.{arith}
 use lib.ListN.{length}
 use Rattle.naming.proofs.Names.{names-divided}
 use Rattle.pool_breaches.proofs.Sighting.{sighted-other}
-use borrow.Author.Rules.{rules}
 use Rattle.pool_breaches.proofs.pass.Goals as goal
 
 pub record_kind-kind-requires : goal.record_kind-kind-requires

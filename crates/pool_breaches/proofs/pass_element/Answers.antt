@@ -6,7 +6,6 @@ use lib.ListN.{length}
 use Rattle.views.specs.Fields.{element_of}
 use Rattle.naming.proofs.Names.{names-divided, named-inside}
 use Rattle.naming.proofs.Starts.{start-read}
-use borrow.Author.Rules.{rules}
 use Rattle.pool_breaches.proofs.pass_element.Goals as goal
 
 pub bounds-starts-i : goal.bounds-starts-i

@@ -5,7 +5,6 @@ use lib.ListN.{length-replicate}
 use Rattle.naming.proofs.Lists.{blank, long}
 use Rattle.naming.proofs.Names.{names-divided}
 use Rattle.pool_breaches.proofs.Sighting.{sighted-start}
-use borrow.Author.Rules.{rules}
 use Rattle.pool_breaches.proofs.put_all.Goals as goal
 
 pub first_device-device-requires : goal.first_device-device-requires

@@ -1,9 +1,7 @@
 -- `pool_breaches::put_records` meets its contract: record by record.
 use Prim.Native.Nat.{◌-◌, ◌≤◌}
-use native.Mathlib.Omega.{arith}
 use lib.ListN.{length}
-use Rattle.naming.proofs.Names.{names-some, names-few}
-use Rattle.pool_breaches.proofs.Whole.{Putting, putting-start, putting-more, putting-end}
+use Rattle.pool_breaches.proofs.Whole.{Putting}
 use Rattle.pool_breaches.proofs.put_records.Given as goal
 
 abbrev pub invariant-loop-i : goal.invariant-loop-i

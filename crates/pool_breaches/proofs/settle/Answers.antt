@@ -1,7 +1,6 @@
 -- `pool_breaches::settle` meets its contract.
 use mathlib.Core.Path.{sym}
 use mathlib.Core.Bool.{true≢false}
-use borrow.Author.Rules.{rules}
 use Rattle.pool_breaches.proofs.settle.Goals as goal
 
 pub returns-then-full : goal.returns-then-full

@@ -5,7 +5,6 @@ use Prim.Native.Nat.{suc, ◌<◌}
 use native.Mathlib.Omega.{arith}
 use lib.ListN.{length}
 use Rattle.pool_breaches.proofs.Sighting.{number-low, repeated-is, circling-is, sighted-element, usual-low, usual-repeated, usual-circling, usual-sighted}
-use borrow.Author.Rules.{rules}
 use Rattle.pool_breaches.proofs.settle_element.Goals as goal
 
 pub note-requires : goal.note-requires

@@ -10,7 +10,7 @@ use mir.Syntax.{w32}
 use mir.Val.{SFits}
 use mir.ValLaws.{to_z-of_z}
 use borrow.Author.Rules.{rules}
-use borrow.Author.Tests.{lt-leb, le-leb, not-true, not-false}
+use borrow.Author.Tests.{lt-leb, le-leb}
 use Rattle.presentation.specs.Display.{in_range, shown_of}
 use Rattle.presentation.proofs.Sums.{sum-small}
 use Rattle.presentation.proofs.Range.{a-number, from-least, to-greatest}

@@ -7,7 +7,6 @@ use Rattle.pool.specs.Walk.{entries_of}
 use Rattle.naming.specs.Records.{id_at}
 use Rattle.queries.specs.Queries.{asked_text}
 use Rattle.queries.proofs.Asked.{number-listed, missing-among, found_among}
-use borrow.Author.Rules.{rules}
 use Rattle.queries.proofs.find_among.Goals as goal
 
 pub returns-then-number-eq0 : goal.returns-then-number-eq0

@@ -4,7 +4,6 @@ use native.Mathlib.Omega.{arith}
 use lib.Seq.{length-take-le}
 use Rattle.checker.specs.Checking.{verdict_of}
 use Rattle.queries.proofs.Asked.{refused_as, text-refused, listed-room, listed-divided, text-found}
-use borrow.Author.Rules.{rules}
 use Rattle.queries.proofs.find_in.Goals as goal
 
 pub returns-then-number-ne0 : goal.returns-then-number-ne0

@@ -5,7 +5,6 @@ use lib.ListN.{length}
 use Rattle.records.specs.declared.Device.{Device}
 use Rattle.views.specs.Fields.{part_of, device_of}
 use Rattle.queries.proofs.Padded.{copied, structure-long, localization-long}
-use borrow.Author.Rules.{rules}
 use Rattle.queries.proofs.labels_at.Goals as goal
 
 pub overflow_cast-result : goal.overflow_cast-result

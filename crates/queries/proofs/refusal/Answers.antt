@@ -2,7 +2,6 @@
 use mathlib.Core.Path.{sym, ◌∙◌}
 use Rattle.checker.specs.Checking.{verdict_of}
 use Rattle.queries.proofs.Accepted.{refusal-number, refusal-faults, refusal-none}
-use borrow.Author.Rules.{rules}
 use Rattle.queries.proofs.refusal.Goals as goal
 
 pub returns-then-number-ne0 : goal.returns-then-number-ne0

@@ -1,7 +1,6 @@
 -- `queries::text_in` meets its contract: the kinds are tested one after the other.
 use borrow.Author.Tests.{ne_eqb}
 use Rattle.queries.specs.Queries.{asked_text}
-use borrow.Author.Rules.{rules}
 use Rattle.queries.proofs.text_in.Goals as goal
 
 pub returns-then-kind-eq1 : goal.returns-then-kind-eq1

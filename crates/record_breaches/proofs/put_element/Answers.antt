@@ -13,7 +13,6 @@ use Rattle.rules.specs.Table.{is_parent_kind, bad_own, repeats}
 use Rattle.field_rules.proofs.Clearing.{clear_both}
 use Rattle.record_breaches.proofs.Rows.{record-clear}
 use Rattle.record_breaches.proofs.ElementRows.{list-fits, element-looked}
-use borrow.Author.Rules.{rules}
 use Rattle.record_breaches.proofs.put_element.Goals as goal
 
 pub bounds-starts-i : goal.bounds-starts-i

@@ -7,7 +7,6 @@ use Rattle.naming.specs.Lists.{id_in}
 use Rattle.naming.proofs.Starts.{id-read}
 use Rattle.faults.proofs.Clearing.{puts-clear}
 use Rattle.rules.specs.Table.{bad_own, repeats}
-use borrow.Author.Rules.{rules}
 use Rattle.record_breaches.proofs.put_other.Goals as goal
 
 pub returns-then-is_clear_other : goal.returns-then-is_clear_other

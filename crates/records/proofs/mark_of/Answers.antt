@@ -1,5 +1,5 @@
 -- `records::mark_of` meets its contract: if two letters differ from those of a mark as a number, at least one of them differs.
-use mathlib.Core.Path.{◌≡◌, refl, ap₂}
+use mathlib.Core.Path.{◌≡◌}
 use mathlib.Core.Bool.{true, false, ◌&&◌}
 use Prim.Native.Nat.{ℕ, ◌+◌, ◌*◌}
 use native.Mathlib.Decide.{ℕ_discrete}
@@ -7,7 +7,6 @@ use native.Mathlib.Omega.{arith}
 use borrow.Author.Tests.{ne_eqb, eq-eqb}
 use lib.Dec.{eqb}
 use Rattle.records.specs.Layout.{mark_of, mark}
-use borrow.Author.Rules.{rules}
 use Rattle.records.proofs.mark_of.Goals as goal
 
 apart : (b c x y : ℕ) → (b + 256 * c ≡ x + 256 * y → ⊥) → eqb b x && (eqb c y && true) ≡ false

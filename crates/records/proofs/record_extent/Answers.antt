@@ -2,12 +2,11 @@
 use mathlib.Core.Path.{◌≡◌, sym, ap, ◌∙◌}
 use Prim.Native.Nat.{ℕ, ◌+◌}
 use native.Mathlib.Omega.{arith}
-use Rattle.records.specs.Extents.{extent_of, marked_end}
+use Rattle.records.specs.Extents.{marked_end}
 use Rattle.records.specs.Answer.{extent_answer}
 use Rattle.records.specs.declared.Extent.{Extent}
 use Rattle.records.specs.declared.Mark.{Mark}
 use Rattle.records.proofs.Ends.{mark-cut, mark-whole}
-use borrow.Author.Rules.{rules}
 use Rattle.records.proofs.record_extent.Goals as goal
 
 -- an extent, and by the numbers

@@ -4,7 +4,6 @@ use Prim.Native.Nat.{◌-◌}
 use native.Mathlib.Omega.{arith}
 use Rattle.pool.proofs.Starts.{starts-within}
 use Rattle.reference_rules.proofs.Tags.{ddi-read}
-use borrow.Author.Rules.{rules}
 use Rattle.reference_rules.proofs.ddi_at.Goals as goal
 
 pub overflow_sub-number : goal.overflow_sub-number

@@ -1,5 +1,4 @@
 -- `reference_rules::is_wrong_entry` meets its contract.
-use borrow.Author.Rules.{rules}
 use Rattle.reference_rules.proofs.is_wrong_entry.Goals as goal
 
 pub returns : goal.returns

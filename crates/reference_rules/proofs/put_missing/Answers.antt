@@ -1,12 +1,10 @@
 -- `reference_rules::put_missing` meets its contract: entry by entry.
 use mathlib.Core.Path.{◌≡◌, sym, ap, ◌∙◌}
 use mathlib.Core.Bool.{Bool, not, ◌||◌}
-use mathlib.Core.Logic.{⊎_elim}
-use mathlib.Core.List.{List, [], ◌∷◌}
-use Prim.Native.Nat.{ℕ, ◌+◌, ◌-◌, ◌≤◌}
+use mathlib.Core.List.{[], ◌∷◌}
+use Prim.Native.Nat.{ℕ, ◌+◌, ◌≤◌}
 use native.Mathlib.Omega.{arith}
 use lib.Dec.{eqb}
-use Rattle.pool.specs.Reading.{Entry}
 use Rattle.pool.specs.Walk.{entries_of}
 use Rattle.faults.specs.Rows.{many}
 use Rattle.faults.specs.Emission.{Puts}
@@ -74,8 +72,8 @@ loop-m-preserved c =
     let Next : Bool → ℕ → Type 0 = λ (w : Bool) (t : ℕ). (t ≤ l.m + 1) × Looking entry (right a.p.now es a.at) tag (l.m + 1) w t in
     let on : Next c.if-is_data_at.wrong c.if-is_data_at.tagged =
     elim c.if-is_data_at.branch [
-      then-is_data_at w ↦ moved Next w.wrong-is w.tagged-is (omega (arith, l.invariant.2), look-data entry (right a.p.now es a.at) tag l.m l.wrong l.tagged l.invariant.3 (sym kind ∙ w.if-is_data_at.true))
-    | else-is_data_at w ↦ moved Next (w.wrong-is ∙ ap (λ (r : ℕ). l.wrong || not (eqb r 0)) is) w.tagged-is (omega (arith, l.invariant.2), look-other entry (right a.p.now es a.at) tag l.m l.wrong l.tagged l.invariant.3 (sym kind ∙ w.if-is_data_at.false) (tag-other a.p.now es (entry l.m) (sym kind ∙ w.if-is_data_at.false)))
+      | then-is_data_at w ↦ moved Next w.wrong-is w.tagged-is (omega (arith, l.invariant.2), look-data entry (right a.p.now es a.at) tag l.m l.wrong l.tagged l.invariant.3 (sym kind ∙ w.if-is_data_at.true))
+      | else-is_data_at w ↦ moved Next (w.wrong-is ∙ ap (λ (r : ℕ). l.wrong || not (eqb r 0)) is) w.tagged-is (omega (arith, l.invariant.2), look-other entry (right a.p.now es a.at) tag l.m l.wrong l.tagged l.invariant.3 (sym kind ∙ w.if-is_data_at.false) (tag-other a.p.now es (entry l.m) (sym kind ∙ w.if-is_data_at.false)))
     ] in
     (put, omega (arith, c.loop-m-test.true), on.0, on.1)
 

@@ -1,22 +1,16 @@
 -- `reference_rules::put_missing` meets its contract: entry by entry.
-use mathlib.Core.Path.{◌≡◌, sym, ap, ◌∙◌}
-use mathlib.Core.Bool.{Bool, not, ◌||◌}
-use mathlib.Core.Logic.{⊎_elim}
+use mathlib.Core.Bool.{Bool}
 use mathlib.Core.List.{List, [], ◌∷◌}
-use Prim.Native.Nat.{ℕ, ◌+◌, ◌-◌, ◌≤◌}
-use native.Mathlib.Omega.{arith}
+use Prim.Native.Nat.{ℕ, ◌-◌, ◌≤◌}
 use lib.Dec.{eqb}
 use Rattle.pool.specs.Reading.{Entry}
 use Rattle.pool.specs.Walk.{entries_of}
 use Rattle.faults.specs.Rows.{many}
 use Rattle.faults.specs.Emission.{Puts}
-use Rattle.faults.proofs.Emission.{puts-start, puts-turn, puts-few, puts-length}
-use Rattle.naming.specs.Naming.{named, kind_of, is_data_kind}
-use Rattle.naming.proofs.Names.{names-divided, named-inside}
+use Rattle.naming.specs.Naming.{kind_of, is_data_kind}
 use Rattle.rules.specs.Table.{entry_named}
 use Rattle.reference_rules.specs.Lists.{entry_tag}
-use Rattle.reference_rules.proofs.Tags.{tag-other}
-use Rattle.reference_rules.proofs.Looking.{Looking, look-start, look-data, look-other}
+use Rattle.reference_rules.proofs.Looking.{Looking}
 use Rattle.reference_rules.proofs.put_missing.Given as goal
 
 -- whether what entry m names is process data or a property

@@ -1,7 +1,6 @@
 -- `reference_rules::put_numbered` meets its contract.
 use native.Mathlib.Omega.{arith}
 use Rattle.faults.proofs.Emission.{puts_then}
-use borrow.Author.Rules.{rules}
 use Rattle.reference_rules.proofs.put_numbered.Goals as goal
 
 pub returns : goal.returns

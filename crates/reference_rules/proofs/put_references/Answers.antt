@@ -2,7 +2,6 @@
 use mathlib.Core.Path.{◌∙◌}
 use native.Mathlib.Omega.{arith}
 use Rattle.naming.proofs.Names.{names-divided}
-use borrow.Author.Rules.{rules}
 use Rattle.faults.proofs.Emission.{puts_then, puts-length}
 use Rattle.reference_rules.proofs.put_references.Goals as goal
 

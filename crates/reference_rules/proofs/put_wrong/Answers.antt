@@ -1,11 +1,8 @@
 -- `reference_rules::put_wrong` meets its contract: entry by entry.
 use mathlib.Core.Path.{◌≡◌, sym, ap, ◌∙◌}
-use mathlib.Core.Bool.{Bool}
-use mathlib.Core.List.{List, [], ◌∷◌}
-use Prim.Native.Nat.{ℕ, ◌-◌, ◌≤◌}
+use mathlib.Core.List.{[], ◌∷◌}
+use Prim.Native.Nat.{ℕ}
 use native.Mathlib.Omega.{arith}
-use borrow.Author.Tests.{not-true}
-use Rattle.pool.specs.Reading.{Entry}
 use Rattle.pool.specs.Walk.{entries_of}
 use Rattle.faults.specs.Rows.{many}
 use Rattle.faults.specs.Emission.{Puts}

@@ -1,18 +1,12 @@
 -- `reference_rules::put_wrong` meets its contract: entry by entry.
-use mathlib.Core.Path.{◌≡◌, sym, ap, ◌∙◌}
 use mathlib.Core.Bool.{Bool}
 use mathlib.Core.List.{List, [], ◌∷◌}
 use Prim.Native.Nat.{ℕ, ◌-◌, ◌≤◌}
-use native.Mathlib.Omega.{arith}
-use borrow.Author.Tests.{not-true}
 use Rattle.pool.specs.Reading.{Entry}
 use Rattle.pool.specs.Walk.{entries_of}
 use Rattle.faults.specs.Rows.{many}
 use Rattle.faults.specs.Emission.{Puts}
-use Rattle.faults.proofs.Emission.{puts-start, puts-turn, puts-few, puts-length}
-use Rattle.faults.proofs.Clearing.{puts-clear}
-use Rattle.naming.specs.Naming.{named, kind_of, is_data_kind}
-use Rattle.naming.proofs.Names.{names-divided, named-inside}
+use Rattle.naming.specs.Naming.{kind_of, is_data_kind}
 use Rattle.rules.specs.Table.{is_wrong_kind, entry_named}
 use Rattle.reference_rules.proofs.put_wrong.Given as goal
 

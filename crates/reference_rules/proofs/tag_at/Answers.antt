@@ -1,7 +1,6 @@
 -- `reference_rules::tag_at` meets its contract.
 use mathlib.Core.Path.{sym, ◌∙◌}
 use native.Mathlib.Omega.{arith}
-use borrow.Author.Rules.{rules}
 use Rattle.pool.specs.Walk.{entries_of}
 use Rattle.reference_rules.proofs.Tags.{data-some, tag-data, tag-other}
 use Rattle.reference_rules.proofs.tag_at.Goals as goal

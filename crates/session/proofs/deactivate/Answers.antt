@@ -2,7 +2,6 @@
 use mathlib.Core.Path.{sym, ◌∙◌}
 use borrow.Author.Tests.{eq-eqb, ne_eqb}
 use Rattle.session.specs.Calls.{deactivate_of}
-use borrow.Author.Rules.{rules}
 use Rattle.session.proofs.deactivate.Goals as goal
 
 pub returns-then-is_impossible : goal.returns-then-is_impossible

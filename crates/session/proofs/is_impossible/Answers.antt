@@ -1,7 +1,7 @@
 -- `session::is_impossible` meets its contract: the tests are the definition's, in its order.
 use mathlib.Core.Path.{◌≡◌}
 use mathlib.Core.Bool.{Bool, not, ◌&&◌, ◌||◌, or_assoc, or-false}
-use mathlib.Core.List.{List, [], ◌∷◌}
+use mathlib.Core.List.{[], ◌∷◌}
 use lib.Dec.{eqb, ltb}
 use Rattle.session.specs.Calls.{is_offered, is_active, any_of, impossible}
 use Rattle.session.proofs.is_impossible.Goals as goal

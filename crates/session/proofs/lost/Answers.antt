@@ -1,7 +1,6 @@
 -- `session::lost` meets its contract: each return is a case of the definition.
 use mathlib.Core.Path.{sym, ◌∙◌}
 use Rattle.session.specs.Calls.{lost_of}
-use borrow.Author.Rules.{rules}
 use Rattle.session.proofs.lost.Goals as goal
 
 pub returns-then-is_impossible : goal.returns-then-is_impossible

@@ -1,5 +1,4 @@
 -- `session::numbers_of` meets its contract: each arm has the definition's numbers.
-use borrow.Author.Rules.{rules}
 use Rattle.session.proofs.numbers_of.Goals as goal
 
 pub returns-in-Done : goal.returns-in-Done

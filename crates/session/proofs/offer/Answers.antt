@@ -5,7 +5,6 @@ use lib.Dec.{eqb, ltb}
 use borrow.Author.Tests.{ltb-false}
 use Rattle.wire.proofs.Either.{neither}
 use Rattle.session.specs.Calls.{offer_of}
-use borrow.Author.Rules.{rules}
 use Rattle.session.proofs.offer.Goals as goal
 
 pub returns-then-is_impossible : goal.returns-then-is_impossible

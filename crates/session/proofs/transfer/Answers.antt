@@ -12,7 +12,6 @@ use Rattle.session.specs.declared.Session.{Session}
 use Rattle.session.proofs.Arising.{within, small}
 use Rattle.wire.proofs.Either.{neither}
 use Rattle.session.proofs.Pieces.{put_back}
-use borrow.Author.Rules.{rules}
 use Rattle.session.proofs.transfer.Goals as goal
 
 -- a piece that is no longer than what is left has room where the announced size has

@@ -1,8 +1,7 @@
 -- `text::from_e0` meets its contract.
-use mathlib.Core.Path.{◌≡◌, sym, ◌∙◌}
+use mathlib.Core.Path.{sym, ◌∙◌}
 use native.Mathlib.Omega.{arith}
 use Rattle.text.proofs.Widths.{at-e0, at-ed, triple}
-use borrow.Author.Rules.{rules}
 use Rattle.text.proofs.from_e0.Goals as goal
 
 pub returns-then-a-eq224 : goal.returns-then-a-eq224

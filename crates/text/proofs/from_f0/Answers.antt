@@ -1,8 +1,7 @@
 -- `text::from_f0` meets its contract.
-use mathlib.Core.Path.{◌≡◌, sym, ◌∙◌}
+use mathlib.Core.Path.{sym, ◌∙◌}
 use native.Mathlib.Omega.{arith}
 use Rattle.text.proofs.Widths.{at-f0, quadruple, at-f4, beyond}
-use borrow.Author.Rules.{rules}
 use Rattle.text.proofs.from_f0.Goals as goal
 
 pub returns-then-a-eq240 : goal.returns-then-a-eq240

@@ -1,10 +1,7 @@
 -- `text::highest` meets its contract.
-use mathlib.Core.Logic.{⊎_elim}
-use mathlib.Core.Path.{◌≡◌}
-use Prim.Native.Nat.{ℕ, ◌-◌, ◌≤◌, ◌<◌}
-use native.Mathlib.Decide.{dec_lt}
+use Prim.Native.Nat.{◌≤◌}
 use native.Mathlib.Omega.{arith}
-use lib.ListN.{length, get_or, get_or-eq_default}
+use lib.ListN.{get_or}
 use Rattle.text.proofs.Steps.{bound-more, bound_all}
 use Rattle.text.proofs.highest.Goals as goal
 use Rattle.text.proofs.highest.Goals.{then-high-s, else-high-s}

@@ -1,11 +1,6 @@
 -- `text::highest` meets its contract.
-use mathlib.Core.Logic.{⊎_elim}
-use mathlib.Core.Path.{◌≡◌}
 use Prim.Native.Nat.{ℕ, ◌-◌, ◌≤◌, ◌<◌}
-use native.Mathlib.Decide.{dec_lt}
-use native.Mathlib.Omega.{arith}
-use lib.ListN.{length, get_or, get_or-eq_default}
-use Rattle.text.proofs.Steps.{bound-more, bound_all}
+use lib.ListN.{length, get_or}
 use Rattle.text.proofs.highest.Given as goal
 
 abbrev pub invariant-loop-i : goal.invariant-loop-i

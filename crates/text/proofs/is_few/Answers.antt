@@ -1,10 +1,10 @@
 -- `text::is_few` meets its contract: the characters counted so far and those still to be counted make up the whole count.
-use mathlib.Core.Path.{◌≡◌, refl, sym, ap, ◌∙◌}
-use Prim.Native.Nat.{◌+◌, ◌-◌, ◌≤◌, ◌<◌}
+use mathlib.Core.Path.{◌≡◌, sym, ap, ◌∙◌}
+use Prim.Native.Nat.{◌+◌}
 use native.Mathlib.Nat.{add-zero}
 use native.Mathlib.Omega.{arith}
 use borrow.Author.Tests.{le-leb}
-use lib.ListN.{length, drop, drop_of_length-le}
+use lib.ListN.{drop, drop_of_length-le}
 use Rattle.text.specs.Characters.{Characters, characters_in, plus, width_at}
 use Rattle.text.specs.Examined.{few}
 use Rattle.text.proofs.Steps.{bad, good, regroup, none, few-malformed, few-at-most}

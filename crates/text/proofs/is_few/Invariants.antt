@@ -1,13 +1,8 @@
 -- `text::is_few` meets its contract: the characters counted so far and those still to be counted make up the whole count.
-use mathlib.Core.Path.{◌≡◌, refl, sym, ap, ◌∙◌}
-use Prim.Native.Nat.{◌+◌, ◌-◌, ◌≤◌, ◌<◌}
-use native.Mathlib.Nat.{add-zero}
-use native.Mathlib.Omega.{arith}
-use borrow.Author.Tests.{le-leb}
-use lib.ListN.{length, drop, drop_of_length-le}
-use Rattle.text.specs.Characters.{Characters, characters_in, plus, width_at}
-use Rattle.text.specs.Examined.{few}
-use Rattle.text.proofs.Steps.{bad, good, regroup, none, few-malformed, few-at-most}
+use mathlib.Core.Path.{◌≡◌}
+use Prim.Native.Nat.{◌-◌, ◌≤◌}
+use lib.ListN.{length, drop}
+use Rattle.text.specs.Characters.{characters_in, plus}
 use Rattle.text.proofs.is_few.Given as goal
 
 abbrev pub invariant-loop-i : goal.invariant-loop-i

@@ -1,10 +1,6 @@
 -- `text::is_marked` meets its contract.
-use mathlib.Core.Path.{◌≡◌, sym, ap, ◌∙◌}
-use borrow.Author.Tests.{eq-eqb, ne_eqb}
-use lib.Dec.{eqb}
-use lib.ListN.{get_or}
+use mathlib.Core.Path.{sym, ◌∙◌}
 use Rattle.text.proofs.Steps.{first-differs, second-differs, third-decides}
-use borrow.Author.Rules.{rules}
 use Rattle.text.proofs.is_marked.Goals as goal
 
 pub returns-then-read_u8-ne239 : goal.returns-then-read_u8-ne239

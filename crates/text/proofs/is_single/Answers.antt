@@ -1,7 +1,4 @@
 -- `text::is_single` meets its contract.
-use Prim.Native.Nat.{ℕ, zero, suc, ◌+◌, ◌-◌, ◌*◌, ◌≤◌, ◌<◌}
-use borrow.Author.Rules.{rules}
-use lib.ListN.{get_or}
 use Rattle.wire.proofs.Either.{both}
 use Rattle.text.proofs.Words.{covered}
 use Rattle.text.proofs.is_single.Goals as goal

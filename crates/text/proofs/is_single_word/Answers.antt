@@ -1,9 +1,8 @@
 -- `text::is_single_word` meets its contract.
-use mathlib.Core.Path.{◌≡◌, ap₂, sym, ◌∙◌}
+use mathlib.Core.Path.{ap₂, sym, ◌∙◌}
 use Prim.Native.Nat.{ℕ, ◌-◌}
 use native.Mathlib.Omega.{arith}
 use lib.Bits.{bit_and}
-use borrow.Author.Rules.{rules}
 use borrow.Author.Tests.{eqb-true}
 use Rattle.wire.specs.Bytes.{number_in}
 use Rattle.text.proofs.Words.{single, reaches-8, highs-8}

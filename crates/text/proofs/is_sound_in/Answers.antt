@@ -1,8 +1,7 @@
 -- `text::is_sound_in` meets its contract.
-use mathlib.Core.Path.{◌≡◌, sym}
+use mathlib.Core.Path.{sym}
 use Prim.Native.Nat.{◌-◌}
 use native.Mathlib.Omega.{arith}
-use borrow.Author.Rules.{rules}
 use lib.ListN.{take, drop, length-take}
 use Rattle.text.proofs.Examining.{sound-single}
 use Rattle.text.proofs.Words.{bytes_of}

@@ -1,6 +1,5 @@
 -- `text::is_sound_part` meets its contract.
-use mathlib.Core.Path.{◌≡◌, ap, ◌∙◌}
-use borrow.Author.Rules.{rules}
+use mathlib.Core.Path.{ap, ◌∙◌}
 use Rattle.text.specs.Examined.{sound_text}
 use Rattle.text.proofs.is_sound_part.Goals as goal
 

@@ -1,7 +1,6 @@
 -- `text::is_sound_slice` meets its contract.
-use mathlib.Core.Path.{◌≡◌, refl, sym, ◌∙◌}
+use mathlib.Core.Path.{refl, sym, ◌∙◌}
 use Rattle.text.proofs.Examining.{sound-marked, sound-counted, sound-single}
-use borrow.Author.Rules.{rules}
 use Rattle.text.proofs.is_sound_slice.Goals as goal
 
 pub returns-then-highest-lt128 : goal.returns-then-highest-lt128

@@ -3,7 +3,6 @@ use mathlib.Core.Path.{ap₂}
 use mathlib.Core.Bool.{◌&&◌}
 use native.Mathlib.Omega.{arith}
 use Rattle.text.proofs.Widths.{picked, passed}
-use borrow.Author.Rules.{rules}
 use Rattle.text.proofs.three_wide.Goals as goal
 
 pub returns-then-within : goal.returns-then-within

@@ -1,7 +1,6 @@
 -- `text::two_wide` meets its contract.
 use native.Mathlib.Omega.{arith}
 use Rattle.text.proofs.Widths.{picked, passed}
-use borrow.Author.Rules.{rules}
 use Rattle.text.proofs.two_wide.Goals as goal
 
 pub returns-then-within : goal.returns-then-within

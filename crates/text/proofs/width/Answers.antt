@@ -1,8 +1,7 @@
 -- `text::width` meets its contract.
-use mathlib.Core.Path.{◌≡◌, sym, ◌∙◌}
+use mathlib.Core.Path.{sym, ◌∙◌}
 use native.Mathlib.Omega.{arith}
 use Rattle.text.proofs.Widths.{single, stray, double}
-use borrow.Author.Rules.{rules}
 use Rattle.text.proofs.width.Goals as goal
 
 pub returns-then-a-lt128 : goal.returns-then-a-lt128

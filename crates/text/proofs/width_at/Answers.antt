@@ -1,9 +1,8 @@
 -- `text::width_at` meets its contract.
-use mathlib.Core.Path.{◌≡◌, sym, ◌∙◌}
+use mathlib.Core.Path.{sym, ◌∙◌}
 use native.Mathlib.Omega.{arith}
 use Rattle.text.proofs.Widths.{single}
 use Rattle.text.proofs.Steps.{same_width}
-use borrow.Author.Rules.{rules}
 use Rattle.text.proofs.width_at.Goals as goal
 
 pub returns-then-a-lt128 : goal.returns-then-a-lt128

@@ -1,6 +1,5 @@
 -- `views::device` meets its contract.
 use Rattle.views.proofs.Views.{device-view}
-use borrow.Author.Rules.{rules}
 use Rattle.views.proofs.device.Goals as goal
 
 pub returns : goal.returns

@@ -1,6 +1,5 @@
 -- `views::device_element` meets its contract.
 use Rattle.views.proofs.Views.{element-view}
-use borrow.Author.Rules.{rules}
 use Rattle.views.proofs.device_element.Goals as goal
 
 pub returns : goal.returns

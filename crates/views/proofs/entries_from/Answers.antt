@@ -1,7 +1,6 @@
 -- `views::entries_from` meets its contract.
 use native.Mathlib.Omega.{arith}
 use Rattle.views.proofs.Views.{entries-view}
-use borrow.Author.Rules.{rules}
 use Rattle.views.proofs.entries_from.Goals as goal
 
 pub returns : goal.returns

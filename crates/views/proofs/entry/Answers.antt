@@ -1,6 +1,5 @@
 -- `views::entry` meets its contract.
 use Rattle.views.proofs.Views.{entry-view}
-use borrow.Author.Rules.{rules}
 use Rattle.views.proofs.entry.Goals as goal
 
 pub returns : goal.returns

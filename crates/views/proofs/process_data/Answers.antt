@@ -1,6 +1,5 @@
 -- `views::process_data` meets its contract.
 use Rattle.views.proofs.Views.{process-data-view}
-use borrow.Author.Rules.{rules}
 use Rattle.views.proofs.process_data.Goals as goal
 
 pub returns : goal.returns

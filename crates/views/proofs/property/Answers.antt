@@ -3,7 +3,6 @@ use mathlib.Core.Path.{◌∙◌}
 use mir.Syntax.{w32}
 use mir.ValLaws.{to_z-of_z}
 use Rattle.views.proofs.Views.{property-view}
-use borrow.Author.Rules.{rules}
 use Rattle.views.proofs.property.Goals as goal
 
 pub returns : goal.returns

@@ -3,7 +3,6 @@ use mathlib.Core.Path.{◌∙◌}
 use mir.Syntax.{w32}
 use mir.ValLaws.{to_z-of_z}
 use Rattle.views.proofs.Views.{presentation-view}
-use borrow.Author.Rules.{rules}
 use Rattle.views.proofs.value_presentation.Goals as goal
 
 pub returns : goal.returns

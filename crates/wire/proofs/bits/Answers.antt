@@ -1,12 +1,7 @@
 -- `wire::bits` meets its contract.
-use mathlib.Core.Path.{◌≡◌, refl, sym, ap, ◌∙◌}
-use Prim.Native.Nat.{ℕ, suc, ◌-◌, ◌≤◌, ◌<◌}
 use native.Mathlib.Omega.{arith}
-use lib.IntN.{ℤ, pos, negsuc, nat_abs}
 use mir.Syntax.{w32}
-use mir.Val.{to_z, of_z}
-use mir.ValLaws.{to_z_pos, to_z-of_z}
-use Rattle.wire.specs.Bytes.{bits_of}
+use mir.ValLaws.{to_z_pos}
 use Rattle.wire.proofs.Complement.{turned, plain}
 use Rattle.wire.proofs.bits.Goals as goal
 

@@ -1,11 +1,9 @@
 -- `wire::copy_in` meets its contract: the bytes with those that are still to be copied are the final ones.
 use mathlib.Core.Path.{◌≡◌, refl, sym, ◌∙◌}
-use mathlib.Core.List.{List, []}
-use Prim.Native.Nat.{ℕ, ◌+◌, ◌-◌, ◌≤◌, ◌<◌}
+use mathlib.Core.List.{[]}
 use native.Mathlib.Nat.{add-zero}
 use native.Mathlib.Omega.{arith}
-use lib.ListN.{length, drop, length-set, drop_of_length-le}
-use lib.Seq.{sets}
+use lib.ListN.{drop, length-set, drop_of_length-le}
 use Rattle.wire.proofs.Laid.{lay_step}
 use Rattle.wire.proofs.copy_in.Goals as goal
 

@@ -1,7 +1,5 @@
 -- `wire::has_room` meets its contract.
-use mathlib.Core.Path.{◌≡◌, sym}
-use Prim.Native.Nat.{◌+◌}
-use native.Mathlib.Omega.{arith}
+use mathlib.Core.Path.{sym}
 use Rattle.wire.proofs.Laid.{room-late, room-left}
 use Rattle.wire.proofs.has_room.Goals as goal
 

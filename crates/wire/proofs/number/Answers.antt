@@ -1,9 +1,8 @@
 -- `wire::number` meets its contract: x is the number in the bytes passed so far, from the highest down.
-use mathlib.Core.Path.{◌≡◌, refl, sym, subst}
-use Prim.Native.Nat.{ℕ, suc, ◌+◌, ◌*◌, ◌-◌, ◌^◌, ◌≤◌, ◌<◌}
+use mathlib.Core.Path.{◌≡◌}
+use Prim.Native.Nat.{suc, ◌+◌, ◌-◌}
 use native.Mathlib.Omega.{arith}
-use borrow.Author.Rules.{rules}
-use lib.ListN.{length, take, drop, get_or}
+use lib.ListN.{get_or}
 use Rattle.wire.specs.Bytes.{le_of, number_in}
 use Rattle.wire.proofs.Width.{grows, room, read_step}
 use Rattle.wire.proofs.number.Goals as goal

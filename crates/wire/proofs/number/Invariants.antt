@@ -1,11 +1,8 @@
 -- `wire::number` meets its contract: x is the number in the bytes passed so far, from the highest down.
-use mathlib.Core.Path.{◌≡◌, refl, sym, subst}
-use Prim.Native.Nat.{ℕ, suc, ◌+◌, ◌*◌, ◌-◌, ◌^◌, ◌≤◌, ◌<◌}
-use native.Mathlib.Omega.{arith}
-use borrow.Author.Rules.{rules}
-use lib.ListN.{length, take, drop, get_or}
-use Rattle.wire.specs.Bytes.{le_of, number_in}
-use Rattle.wire.proofs.Width.{grows, room, read_step}
+use mathlib.Core.Path.{◌≡◌}
+use Prim.Native.Nat.{◌+◌, ◌-◌, ◌^◌, ◌≤◌, ◌<◌}
+use lib.ListN.{take, drop}
+use Rattle.wire.specs.Bytes.{le_of}
 use Rattle.wire.proofs.number.Given as goal
 
 abbrev pub invariant-loop-i : goal.invariant-loop-i

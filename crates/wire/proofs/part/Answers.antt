@@ -7,7 +7,6 @@ use native.Mathlib.Nat.{add_comm, le_of_lt, sub_self, min-eq_left, min-eq_right}
 use denote.Ref.{Bor}
 use lib.ListN.{length, take, drop, length-drop, drop_of_length-le}
 use lib.Seq.{take_all, take-nil}
-use borrow.Author.Rules.{rules}
 use Rattle.wire.specs.Parts.{place_in}
 use Rattle.wire.proofs.part.Goals as goal
 

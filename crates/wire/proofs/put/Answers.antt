@@ -1,11 +1,9 @@
 -- `wire::put` meets its contract: the bytes with those that are still to be written are the final ones.
 use mathlib.Core.Path.{◌≡◌, refl, sym, ◌∙◌}
-use Prim.Native.Nat.{ℕ, suc, ◌+◌, ◌-◌, ◌≤◌, ◌<◌, ◌%◌, ◌/◌}
+use Prim.Native.Nat.{◌-◌}
 use native.Mathlib.Nat.{add-zero, sub-zero}
 use native.Mathlib.Omega.{arith}
-use borrow.Author.Rules.{rules}
-use lib.ListN.{length, length-set}
-use lib.Seq.{sets, length-sets}
+use lib.ListN.{length-set}
 use Rattle.wire.specs.Bytes.{bytes_of}
 use Rattle.wire.proofs.Width.{step}
 use Rattle.wire.proofs.put.Goals as goal

@@ -1,13 +1,9 @@
 -- `wire::put` meets its contract: the bytes with those that are still to be written are the final ones.
-use mathlib.Core.Path.{◌≡◌, refl, sym, ◌∙◌}
-use Prim.Native.Nat.{ℕ, suc, ◌+◌, ◌-◌, ◌≤◌, ◌<◌, ◌%◌, ◌/◌}
-use native.Mathlib.Nat.{add-zero, sub-zero}
-use native.Mathlib.Omega.{arith}
-use borrow.Author.Rules.{rules}
-use lib.ListN.{length, length-set}
-use lib.Seq.{sets, length-sets}
+use mathlib.Core.Path.{◌≡◌}
+use Prim.Native.Nat.{◌+◌, ◌-◌, ◌≤◌}
+use lib.ListN.{length}
+use lib.Seq.{sets}
 use Rattle.wire.specs.Bytes.{bytes_of}
-use Rattle.wire.proofs.Width.{step}
 use Rattle.wire.proofs.put.Given as goal
 
 abbrev pub invariant-loop-i : goal.invariant-loop-i

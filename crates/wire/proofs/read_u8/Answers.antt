@@ -1,7 +1,6 @@
 -- `wire::read_u8` meets its contract.
-use mathlib.Core.Path.{◌≡◌, sym}
+use mathlib.Core.Path.{sym}
 use lib.ListN.{get_or-eq_default}
-use borrow.Author.Rules.{rules}
 use Rattle.wire.proofs.read_u8.Goals as goal
 
 pub returns : goal.returns

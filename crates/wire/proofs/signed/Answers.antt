@@ -1,7 +1,5 @@
 -- `wire::signed` meets its contract.
-use mathlib.Core.Path.{◌≡◌, sym, ◌∙◌}
-use native.Mathlib.Omega.{arith}
-use borrow.Author.Rules.{rules}
+use mathlib.Core.Path.{sym, ◌∙◌}
 use mir.Syntax.{w32}
 use mir.ValLaws.{to_z_pos, to_z-of_z}
 use Rattle.wire.proofs.Complement.{low, high, signed-fits}

@@ -1,8 +1,7 @@
 -- `working_table::gather`: a turn fills one more entry.
-use Rattle.std.proofs.Common.{◌≡◌, sym, ◌∙◌, ap, add-one, arith}
+use Rattle.std.proofs.Common.{sym, ◌∙◌, ap, add-one, arith}
 use Rattle.working_table.proofs.Gathered.{gathered_none, gathered_next}
 use Rattle.std.proofs.Math.ListN.{set}
-use Rattle.working_table.specs.Rows.{row_in}
 use Rattle.working_table.proofs.gather.Goals as goal
 
 pub loop-i-init : goal.loop-i-init

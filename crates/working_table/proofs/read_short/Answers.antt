@@ -1,5 +1,5 @@
 -- `working_table::read_short`: the list that reading leaves gives the table after reading.
-use Rattle.std.proofs.Common.{◌≡◌, ℕ, ◌∙◌, ap}
+use Rattle.std.proofs.Common.{ℕ, ◌∙◌, ap}
 use Rattle.pool.specs.Answer.{answer_of}
 use Rattle.working_table.specs.Rows.{gathered}
 use Rattle.working_table.proofs.Gathered.{read-gathers}

@@ -1,6 +1,5 @@
 -- `working_table::row_at` meets its contract.
 use native.Mathlib.Numerals.{add-one}
-use borrow.Author.Rules.{rules}
 use Rattle.records.specs.Places.{id_of}
 use Rattle.working_table.specs.Rows.{row_in}
 use Rattle.working_table.proofs.row_at.Goals as goal

@@ -1,5 +1,5 @@
 -- `checker::table::check_in_long`: the list that checking leaves gives the table after reading.
-use Rattle.std.proofs.Common.{◌≡◌, ℕ, ◌∙◌, ap}
+use Rattle.std.proofs.Common.{ℕ, ◌∙◌, ap}
 use Rattle.checker.specs.Checking.{verdict_of, records_in}
 use Rattle.working_table.specs.Rows.{gathered}
 use Rattle.checker.proofs.Tables.{check-gathers}

@@ -2,7 +2,6 @@
 use mathlib.Core.Path.{◌∙◌}
 use Prim.Native.Nat.{◌-◌}
 use native.Mathlib.Omega.{arith}
-use borrow.Author.Rules.{rules}
 use Rattle.pool.proofs.Starts.{starts-marked}
 use Rattle.faults.proofs.Completing.{ids-read}
 use Rattle.faults.proofs.objects.ids_of.Goals as goal

@@ -1,14 +1,13 @@
 -- `faults::objects::name_first` meets its contract: what is still to be done leads to the whole, and the IDs at hand are those of the record
 use mathlib.Core.Path.{◌≡◌, refl, sym, ap, ap₂, ◌∙◌}
 use mathlib.Core.List.{[], ◌∷◌}
-use mathlib.Core.Logic.{⊎_elim}
-use Prim.Native.Nat.{ℕ, ◌+◌, ◌-◌, ◌*◌, ◌≤◌}
+use Prim.Native.Nat.{ℕ, ◌+◌, ◌-◌, ◌*◌}
 use native.Mathlib.Omega.{arith}
 use lib.ListN.{length, get_or, length-set}
 use lib.Seq.{length-sets}
 use Rattle.pool.specs.Walk.{entries_of}
 use Rattle.faults.specs.Faults.{record_id, record_parent, width}
-use Rattle.faults.specs.Completing.{ids_of, named_from, Below}
+use Rattle.faults.specs.Completing.{ids_of, named_from}
 use Rattle.faults.proofs.Completing.{ids-stored, below_next, named_none, named-next}
 use Rattle.faults.proofs.objects.name_first.Goals as goal
 use Rattle.faults.proofs.objects.name_first.Goals.{then-number-known, else-number-known}
@@ -66,8 +65,8 @@ loop-i-preserved c =
     -- the IDs at hand are those of this fault's record, whether they were just read or known before
     let h : (c.if-number-known.known ≡ number) × (c.if-number-known.id ≡ record_id es number) × (c.if-number-known.parent ≡ record_parent es number) =
     elim c.if-number-known.branch [
-      then-number-known w ↦ (w.known-is, w.id-is ∙ w.ids_of-ids.ensures.0, w.parent-is ∙ w.ids_of-ids.ensures.1)
-    | else-number-known w ↦ (w.known-is ∙ sym w.if-number-known.false, w.id-is ∙ l.invariant.4 ∙ ap (record_id es) (sym w.if-number-known.false), w.parent-is ∙ l.invariant.5 ∙ ap (record_parent es) (sym w.if-number-known.false))
+      | then-number-known w ↦ (w.known-is, w.id-is ∙ w.ids_of-ids.ensures.0, w.parent-is ∙ w.ids_of-ids.ensures.1)
+      | else-number-known w ↦ (w.known-is ∙ sym w.if-number-known.false, w.id-is ∙ l.invariant.4 ∙ ap (record_id es) (sym w.if-number-known.false), w.parent-is ∙ l.invariant.5 ∙ ap (record_parent es) (sym w.if-number-known.false))
     ] in
     let stored = ids-stored l.buffer (ids_of es number) (l.i * width) c.if-number-known.id c.if-number-known.parent (ap₂ (λ (x y : ℕ). x ∷ y ∷ []) h.1 h.2) in (
       omega (arith, c.loop-i-test.true),

@@ -1,15 +1,10 @@
 -- `faults::objects::name_first` meets its contract: what is still to be done leads to the whole, and the IDs at hand are those of the record
-use mathlib.Core.Path.{◌≡◌, refl, sym, ap, ap₂, ◌∙◌}
-use mathlib.Core.List.{[], ◌∷◌}
-use mathlib.Core.Logic.{⊎_elim}
-use Prim.Native.Nat.{ℕ, ◌+◌, ◌-◌, ◌*◌, ◌≤◌}
-use native.Mathlib.Omega.{arith}
-use lib.ListN.{length, get_or, length-set}
-use lib.Seq.{length-sets}
+use mathlib.Core.Path.{◌≡◌}
+use Prim.Native.Nat.{◌-◌, ◌≤◌}
+use lib.ListN.{length}
 use Rattle.pool.specs.Walk.{entries_of}
-use Rattle.faults.specs.Faults.{record_id, record_parent, width}
-use Rattle.faults.specs.Completing.{ids_of, named_from, Below}
-use Rattle.faults.proofs.Completing.{ids-stored, below_next, named_none, named-next}
+use Rattle.faults.specs.Faults.{record_id, record_parent}
+use Rattle.faults.specs.Completing.{named_from, Below}
 use Rattle.faults.proofs.objects.name_first.Given as goal
 
 -- that is known. Assumes nothing.

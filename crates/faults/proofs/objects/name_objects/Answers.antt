@@ -1,7 +1,6 @@
 -- `faults::objects::name_objects` meets its contract.
 use mathlib.Core.Path.{◌∙◌}
 use native.Mathlib.Omega.{arith}
-use borrow.Author.Rules.{rules}
 use lib.ListN.{length}
 use Rattle.pool.specs.Walk.{entries_of}
 use Rattle.faults.proofs.Completing.{completed, fitting-all, fitting-some, fitting-below}

@@ -1,14 +1,9 @@
 -- `field_rules::whole::first_device` meets its contract.
-use mathlib.Core.Path.{sym, ◌∙◌}
 use Prim.Native.Nat.{◌-◌, ◌≤◌}
-use native.Mathlib.Omega.{arith}
 use lib.ListN.{length}
 use Rattle.pool.specs.Walk.{entries_of}
-use Rattle.pool.proofs.Starts.{entries-long, starts-few}
 use Rattle.naming.specs.Records.{kind_at}
-use Rattle.naming.proofs.First.{Without, to_none}
-use Rattle.naming.proofs.Looking.{none_yet, none_more, first_found}
-use Rattle.naming.proofs.Starts.{kind-is}
+use Rattle.naming.proofs.First.{Without}
 use Rattle.field_rules.proofs.whole.first_device.Given as goal
 
 abbrev pub invariant-loop-i : goal.invariant-loop-i

@@ -1,7 +1,6 @@
 -- `field_rules::whole::is_machine` meets its contract.
 use mathlib.Core.Path.{sym, ◌∙◌}
 use borrow.Author.Tests.{eq-eqb, ne_eqb}
-use borrow.Author.Rules.{rules}
 use Rattle.field_rules.proofs.whole.is_machine.Goals as goal
 
 pub returns-then-kind-eq2 : goal.returns-then-kind-eq2

@@ -1,6 +1,6 @@
 -- `field_rules::whole::lacks_machine` meets its contract.
 use mathlib.Core.Path.{◌≡◌, sym, ap, ◌∙◌}
-use Prim.Native.Nat.{ℕ, suc, ◌-◌, ◌≤◌, ◌<◌}
+use Prim.Native.Nat.{ℕ, suc, ◌<◌}
 use mathlib.Core.Bool.{cond}
 use mathlib.Core.List.{List}
 use native.Mathlib.Omega.{arith}
@@ -12,7 +12,7 @@ use Rattle.views.specs.Fields.{element_of}
 use Rattle.pool.specs.Walk.{entries_of}
 use Rattle.pool.proofs.Starts.{entries-long, starts-few}
 use Rattle.naming.specs.Naming.{type_key}
-use Rattle.naming.proofs.First.{Without, to_none}
+use Rattle.naming.proofs.First.{to_none}
 use Rattle.naming.proofs.Looking.{none_yet, none_more, first-there}
 use Rattle.naming.proofs.Starts.{kind-is, start-read}
 use Rattle.field_rules.proofs.whole.lacks_machine.Goals as goal

@@ -2,7 +2,6 @@
 use native.Mathlib.Omega.{arith}
 use mir.Syntax.{w32}
 use mir.ValLaws.{to_z-of_z}
-use borrow.Author.Rules.{rules}
 use Rattle.log_writing.proofs.writing.kept.Goals as goal
 
 pub overflow_cast-fields-5 : goal.overflow_cast-fields-5

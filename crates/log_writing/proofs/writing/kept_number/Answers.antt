@@ -1,8 +1,7 @@
 -- `log_writing::writing::kept_number` meets its contract: a field that is not marked has no bytes.
-use mathlib.Core.Path.{◌≡◌, refl, sym, ◌∙◌}
+use mathlib.Core.Path.{◌≡◌, refl}
 use native.Mathlib.Omega.{arith}
 use borrow.Author.Tests.{eq-eqb, ne_eqb}
-use borrow.Author.Rules.{rules}
 use Rattle.time_log.specs.Layout.{width, part_width}
 use Rattle.time_log.proofs.Parts.{unmarked, marked, width_some}
 use Rattle.log_writing.proofs.writing.kept_number.Goals as goal

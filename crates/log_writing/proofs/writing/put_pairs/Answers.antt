@@ -1,14 +1,10 @@
 -- `log_writing::writing::put_pairs` meets its contract: the bytes with the pairs that are still to be written are the final ones.
-use mathlib.Core.Path.{◌≡◌, refl, ◌∙◌}
-use Prim.Native.Nat.{◌+◌, ◌*◌, ◌-◌, ◌≤◌}
+use mathlib.Core.Path.{refl, ◌∙◌}
 use native.Mathlib.Nat.{sub-zero}
 use native.Mathlib.Omega.{arith}
-use borrow.Author.Rules.{rules}
-use lib.ListN.{length, get_or, length-set}
-use lib.Seq.{sets}
+use lib.ListN.{get_or, length-set}
 use mir.Syntax.{w32}
 use mir.ValLaws.{to_z-of_z}
-use Rattle.log_writing.specs.Writing.{pairs_from}
 use Rattle.log_writing.proofs.Laying.{pair-laid, pairs-done}
 use Rattle.log_writing.proofs.writing.put_pairs.Goals as goal
 

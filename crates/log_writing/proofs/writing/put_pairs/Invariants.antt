@@ -1,15 +1,9 @@
 -- `log_writing::writing::put_pairs` meets its contract: the bytes with the pairs that are still to be written are the final ones.
-use mathlib.Core.Path.{◌≡◌, refl, ◌∙◌}
+use mathlib.Core.Path.{◌≡◌}
 use Prim.Native.Nat.{◌+◌, ◌*◌, ◌-◌, ◌≤◌}
-use native.Mathlib.Nat.{sub-zero}
-use native.Mathlib.Omega.{arith}
-use borrow.Author.Rules.{rules}
-use lib.ListN.{length, get_or, length-set}
+use lib.ListN.{length}
 use lib.Seq.{sets}
-use mir.Syntax.{w32}
-use mir.ValLaws.{to_z-of_z}
 use Rattle.log_writing.specs.Writing.{pairs_from}
-use Rattle.log_writing.proofs.Laying.{pair-laid, pairs-done}
 use Rattle.log_writing.proofs.writing.put_pairs.Given as goal
 
 abbrev pub invariant-loop-i : goal.invariant-loop-i

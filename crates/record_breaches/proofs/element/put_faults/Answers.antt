@@ -9,7 +9,6 @@ use Rattle.naming.proofs.Names.{names-divided, names-few, named-inside}
 use Rattle.naming.proofs.Starts.{start-read}
 use Rattle.record_breaches.proofs.Rows.{all-rows}
 use Rattle.record_breaches.proofs.ElementRows.{list-fits, element-rows}
-use borrow.Author.Rules.{rules}
 use Rattle.record_breaches.proofs.element.put_faults.Goals as goal
 
 pub bounds-starts-i : goal.bounds-starts-i

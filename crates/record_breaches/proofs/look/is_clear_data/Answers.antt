@@ -1,9 +1,8 @@
 -- `record_breaches::look::is_clear_data` meets its contract.
-use mathlib.Core.Path.{◌≡◌, refl, sym, ap, ◌∙◌}
+use mathlib.Core.Path.{refl, sym, ap, ◌∙◌}
 use mathlib.Core.Bool.{not, ◌||◌}
 use Prim.Native.Nat.{suc, ◌+◌, ◌<◌}
 use native.Mathlib.Omega.{arith}
-use borrow.Author.Tests.{not-false}
 use lib.Dec.{ltb}
 use lib.ListN.{length, get_or}
 use Rattle.records.specs.declared.ProcessData.{ProcessData}
@@ -13,7 +12,6 @@ use Rattle.rules.specs.Table.{bad_source}
 use Rattle.rules.proofs.Truth.{untrue}
 use Rattle.record_breaches.proofs.Looking.{data-looked}
 use Rattle.record_breaches.proofs.Rows.{record-looked}
-use borrow.Author.Rules.{rules}
 use Rattle.record_breaches.proofs.look.is_clear_data.Goals as goal
 
 pub overflow_cast-text_at : goal.overflow_cast-text_at

@@ -1,9 +1,7 @@
 -- `record_breaches::look::is_clear_element` meets its contract.
 use mathlib.Core.Path.{sym, ◌∙◌}
-use borrow.Author.Tests.{not-false}
 use Rattle.rules.proofs.Truth.{both, untrue}
 use Rattle.field_rules.proofs.Clearing.{fields-clear}
-use borrow.Author.Rules.{rules}
 use Rattle.record_breaches.proofs.look.is_clear_element.Goals as goal
 
 pub returns-then-not-is_parent-is_fit_element : goal.returns-then-not-is_parent-is_fit_element

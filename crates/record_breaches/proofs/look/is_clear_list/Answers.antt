@@ -1,15 +1,14 @@
 -- `record_breaches::look::is_clear_list` meets its contract: after m entries their tags are distinct and their places are stamped.
 use mathlib.Core.Path.{◌≡◌, refl, sym, ap, ◌∙◌}
-use Prim.Native.Nat.{ℕ, ◌+◌, ◌-◌, ◌≤◌, ◌<◌, ◌%◌}
+use Prim.Native.Nat.{ℕ, ◌+◌, ◌<◌, ◌%◌}
 use native.Mathlib.Nat.{mod-lt}
 use native.Mathlib.Omega.{arith}
-use lib.ListN.{length, length-set}
+use lib.ListN.{length-set}
 use Rattle.pool.specs.Walk.{entries_of}
 use Rattle.naming.specs.Naming.{named, tag_of}
 use Rattle.naming.proofs.Names.{names-divided, named-inside}
-use Rattle.rules.specs.Table.{entry_named}
 use Rattle.rules.proofs.Truth.{untrue}
-use Rattle.field_rules.proofs.Clearing.{Placed, placed-none, placed-more, neither}
+use Rattle.field_rules.proofs.Clearing.{placed-none, placed-more, neither}
 use Rattle.record_breaches.proofs.look.is_clear_list.Goals as goal
 
 pub overflow_add-stamp : goal.overflow_add-stamp

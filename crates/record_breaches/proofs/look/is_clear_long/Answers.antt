@@ -1,15 +1,13 @@
 -- `record_breaches::look::is_clear_long` meets its contract: after m entries their tags are distinct and their bits are set.
 use mathlib.Core.Path.{◌≡◌, refl, sym, ap, ◌∙◌}
-use Prim.Native.Nat.{ℕ, ◌-◌, ◌≤◌, ◌<◌, ◌%◌}
+use Prim.Native.Nat.{◌<◌, ◌%◌}
 use native.Mathlib.Nat.{mod-lt}
 use native.Mathlib.Omega.{arith}
-use lib.ListN.{length}
 use Rattle.pool.specs.Walk.{entries_of}
 use Rattle.naming.specs.Naming.{named, tag_of}
 use Rattle.naming.proofs.Names.{names-divided, named-inside}
-use Rattle.rules.specs.Table.{entry_named}
 use Rattle.rules.proofs.Truth.{untrue}
-use Rattle.record_breaches.proofs.Noting.{Noted, noted-none, noted_more}
+use Rattle.record_breaches.proofs.Noting.{noted-none, noted_more}
 use Rattle.record_breaches.proofs.look.is_clear_long.Goals as goal
 
 pub loop-m-init : goal.loop-m-init

@@ -1,7 +1,6 @@
 -- `record_breaches::look::is_clear_other` meets its contract.
 use mathlib.Core.Path.{sym, ◌∙◌}
 use Rattle.rules.proofs.Truth.{untrue}
-use borrow.Author.Rules.{rules}
 use Rattle.record_breaches.proofs.look.is_clear_other.Goals as goal
 
 pub returns-then-kind-eq3 : goal.returns-then-kind-eq3

@@ -1,15 +1,13 @@
 -- `record_breaches::look::is_clear_property` meets its contract.
-use mathlib.Core.Path.{◌≡◌, refl, sym, ◌∙◌}
+use mathlib.Core.Path.{refl, sym, ◌∙◌}
 use Prim.Native.Nat.{suc, ◌+◌, ◌<◌}
 use native.Mathlib.Omega.{arith}
-use borrow.Author.Tests.{not-false}
 use lib.ListN.{length, get_or}
 use Rattle.pool.specs.Walk.{entries_of}
 use Rattle.naming.proofs.Starts.{start-read}
 use Rattle.rules.proofs.Truth.{untrue}
 use Rattle.record_breaches.proofs.Looking.{property-looked}
 use Rattle.record_breaches.proofs.Rows.{record-looked}
-use borrow.Author.Rules.{rules}
 use Rattle.record_breaches.proofs.look.is_clear_property.Goals as goal
 
 pub overflow_cast-text_at : goal.overflow_cast-text_at

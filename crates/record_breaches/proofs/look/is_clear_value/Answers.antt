@@ -1,5 +1,5 @@
 -- `record_breaches::look::is_clear_value` meets its contract.
-use mathlib.Core.Path.{◌≡◌, refl, sym, subst, ◌∙◌}
+use mathlib.Core.Path.{refl, sym, subst, ◌∙◌}
 use Prim.Native.Nat.{suc, ◌<◌}
 use native.Mathlib.Omega.{arith}
 use lib.ListN.{length, get_or}
@@ -13,7 +13,6 @@ use Rattle.rules.proofs.Truth.{both, untrue}
 use Rattle.field_rules.proofs.ByKind.{value-rows}
 use Rattle.field_rules.proofs.Clearing.{value-clear}
 use Rattle.record_breaches.proofs.Rows.{record-looked}
-use borrow.Author.Rules.{rules}
 use Rattle.record_breaches.proofs.look.is_clear_value.Goals as goal
 
 pub overflow_cast-at : goal.overflow_cast-at

@@ -1,5 +1,5 @@
 -- `record_breaches::look::is_own` meets its contract.
-use mathlib.Core.Path.{◌≡◌, sym, ap, ap₂, ◌∙◌}
+use mathlib.Core.Path.{sym, ap, ap₂, ◌∙◌}
 use mathlib.Core.Bool.{Bool, not, ◌||◌}
 use Prim.Native.Nat.{suc, ◌<◌}
 use native.Mathlib.Omega.{arith}
@@ -10,7 +10,6 @@ use Rattle.naming.specs.Lists.{id_in}
 use Rattle.naming.proofs.Starts.{id-read}
 use Rattle.rules.specs.Table.{bad_own, repeats}
 use Rattle.record_breaches.proofs.Rows.{owned-clear}
-use borrow.Author.Rules.{rules}
 use Rattle.record_breaches.proofs.look.is_own.Goals as goal
 
 pub returns-then-owned : goal.returns-then-owned

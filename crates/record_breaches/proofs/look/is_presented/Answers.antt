@@ -5,7 +5,6 @@ use Rattle.pool.specs.Walk.{entries_of}
 use Rattle.naming.specs.Naming.{kind_of}
 use Rattle.naming.proofs.Names.{names-divided, named-inside}
 use Rattle.record_breaches.proofs.Looking.{none-presented, right-presented}
-use borrow.Author.Rules.{rules}
 use Rattle.record_breaches.proofs.look.is_presented.Goals as goal
 
 pub returns-then-id-eq65535 : goal.returns-then-id-eq65535

@@ -3,7 +3,6 @@ use native.Mathlib.Omega.{arith}
 use Rattle.pool.specs.Walk.{entries_of}
 use Rattle.naming.proofs.Names.{names-few}
 use Rattle.record_breaches.proofs.Rows.{all-rows}
-use borrow.Author.Rules.{rules}
 use Rattle.record_breaches.proofs.other.put_faults.Goals as goal
 
 pub overflow_add-i : goal.overflow_add-i

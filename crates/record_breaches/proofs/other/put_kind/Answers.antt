@@ -9,7 +9,6 @@ use Rattle.naming.proofs.Names.{names-few}
 use Rattle.naming.proofs.Starts.{start-read}
 use Rattle.faults.proofs.Emission.{puts_none}
 use Rattle.field_rules.proofs.ByKind.{near, as_none, device-rows, data-rows, property-rows, value-rows}
-use borrow.Author.Rules.{rules}
 use Rattle.record_breaches.proofs.other.put_kind.Goals as goal
 
 pub overflow_cast-number : goal.overflow_cast-number

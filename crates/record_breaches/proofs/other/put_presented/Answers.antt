@@ -2,7 +2,6 @@
 use Rattle.pool.specs.Walk.{entries_of}
 use Rattle.naming.proofs.Names.{names-divided, named-inside}
 use Rattle.record_breaches.proofs.Rows.{presented}
-use borrow.Author.Rules.{rules}
 use Rattle.record_breaches.proofs.other.put_presented.Goals as goal
 
 pub kind_at-kind-requires : goal.kind_at-kind-requires

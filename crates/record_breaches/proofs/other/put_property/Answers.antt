@@ -1,7 +1,6 @@
 -- `record_breaches::other::put_property` meets its contract.
 use native.Mathlib.Omega.{arith}
 use Rattle.faults.proofs.Emission.{puts_then}
-use borrow.Author.Rules.{rules}
 use Rattle.record_breaches.proofs.other.put_property.Goals as goal
 
 pub returns : goal.returns

@@ -1,8 +1,7 @@
 -- `records::end::close` meets its contract.
-use mathlib.Core.Path.{◌≡◌, sym, ap, ◌∙◌}
+use mathlib.Core.Path.{sym, ap, ◌∙◌}
 use borrow.Author.Tests.{le-leb, lt-leb}
 use Rattle.records.specs.Late.{closed}
-use borrow.Author.Rules.{rules}
 use Rattle.records.proofs.end.close.Goals as goal
 
 pub returns-then-p-at : goal.returns-then-p-at

@@ -6,7 +6,6 @@ use Rattle.records.specs.Layout.{fixed, entries, text, layout}
 use Rattle.records.specs.Late.{late_field, late_next, closed}
 use Rattle.records.specs.declared.Kind.TheVariants.{Det}
 use Rattle.records.proofs.Late.{late}
-use borrow.Author.Rules.{rules}
 use Rattle.records.proofs.end.det_cut.Goals as goal
 
 pub returns : goal.returns

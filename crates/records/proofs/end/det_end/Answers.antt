@@ -9,7 +9,6 @@ use Rattle.records.specs.Layout.{layout}
 use Rattle.records.specs.declared.Kind.TheVariants.{Det}
 use Rattle.records.specs.declared.Extent.TheVariants.{Ends}
 use Rattle.records.proofs.Late.{late}
-use borrow.Author.Rules.{rules}
 use Rattle.records.proofs.end.det_end.Goals as goal
 
 pub returns-then-size-gt128 : goal.returns-then-size-gt128

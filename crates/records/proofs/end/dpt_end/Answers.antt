@@ -6,7 +6,6 @@ use Rattle.records.specs.Layout.{fixed, text, layout}
 use Rattle.records.specs.Late.{late_field, late_next, closed}
 use Rattle.records.specs.declared.Kind.TheVariants.{Dpt}
 use Rattle.records.proofs.Late.{late}
-use borrow.Author.Rules.{rules}
 use Rattle.records.proofs.end.dpt_end.Goals as goal
 
 pub returns : goal.returns

@@ -1,10 +1,9 @@
 -- `records::end::dvc_end` meets its contract.
-use mathlib.Core.Path.{◌≡◌, sym, ap, ◌∙◌}
+use mathlib.Core.Path.{sym, ap, ◌∙◌}
 use Rattle.records.specs.Layout.{fixed, text, layout}
 use Rattle.records.specs.Late.{late_next, closed}
 use Rattle.records.specs.declared.Kind.TheVariants.{Dvc}
 use Rattle.records.proofs.Late.{late}
-use borrow.Author.Rules.{rules}
 use Rattle.records.proofs.end.dvc_end.Goals as goal
 
 pub returns : goal.returns

@@ -9,7 +9,6 @@ use Rattle.records.specs.declared.Kind.TheVariants.{Dvp}
 use Rattle.records.specs.declared.Extent.{Extent}
 use Rattle.records.specs.declared.Extent.TheVariants.{Ends, NoMark, Cut, LengthOver}
 use Rattle.records.proofs.Late.{late}
-use borrow.Author.Rules.{rules}
 use Rattle.records.proofs.end.dvp_end.Goals as goal
 
 -- no bytes more change nothing

@@ -1,11 +1,10 @@
 -- `records::end::entries_end` meets its contract.
-use mathlib.Core.Path.{◌≡◌, sym, ap, ◌∙◌}
+use mathlib.Core.Path.{sym, ap, ◌∙◌}
 use Prim.Native.Nat.{ℕ, ◌+◌, ◌*◌}
 use native.Mathlib.Omega.{arith}
 use borrow.Author.Tests.{le-leb, lt-leb}
 use lib.ListN.{length}
 use Rattle.records.specs.declared.Extent.TheVariants.{Ends}
-use borrow.Author.Rules.{rules}
 use Rattle.records.proofs.end.entries_end.Goals as goal
 
 pub returns-then-p-at : goal.returns-then-p-at

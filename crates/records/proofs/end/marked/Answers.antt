@@ -9,7 +9,6 @@ use Rattle.records.specs.declared.Mark.{Mark}
 use Rattle.records.specs.declared.Mark.TheVariants.{Of}
 use Rattle.records.specs.declared.Extent.{Extent}
 use Rattle.records.specs.declared.Extent.TheVariants.{Ends}
-use borrow.Author.Rules.{rules}
 use Rattle.records.proofs.end.marked.Goals as goal
 
 arm : (p : List ℕ) (at : ℕ) (m : Mark) (k j : Kind) (r : Extent) → m ≡ Of k → k ≡ j → r ≡ fields_end (layout j) p (Ends at) → r ≡ marked_end m p at

@@ -1,8 +1,7 @@
 -- `records::end::next_entries` meets its contract.
-use mathlib.Core.Path.{◌≡◌, sym, ap, ◌∙◌}
+use mathlib.Core.Path.{sym, ap, ◌∙◌}
 use Rattle.records.specs.Layout.{entries}
 use Rattle.records.specs.Late.{late_next}
-use borrow.Author.Rules.{rules}
 use Rattle.records.proofs.end.next_entries.Goals as goal
 
 pub returns-in-Ends : goal.returns-in-Ends

@@ -1,9 +1,8 @@
 -- `records::end::next_text` meets its contract.
-use mathlib.Core.Path.{◌≡◌, sym, ap, ◌∙◌}
+use mathlib.Core.Path.{sym, ap, ◌∙◌}
 use native.Mathlib.Omega.{arith}
 use Rattle.records.specs.Layout.{text}
 use Rattle.records.specs.Late.{late_next}
-use borrow.Author.Rules.{rules}
 use Rattle.records.proofs.end.next_text.Goals as goal
 
 pub returns-in-Ends : goal.returns-in-Ends

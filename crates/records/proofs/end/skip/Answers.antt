@@ -1,11 +1,8 @@
 -- `records::end::skip` meets its contract.
-use mathlib.Core.Path.{◌≡◌, refl, sym, ap, ◌∙◌}
-use mathlib.Core.List.{List}
-use Prim.Native.Nat.{ℕ, ◌+◌, ◌≤◌, ◌<◌, ◌^◌}
+use mathlib.Core.Path.{sym, ap}
 use native.Mathlib.Omega.{arith}
 use Rattle.records.specs.Layout.{fixed}
 use Rattle.records.specs.Late.{late_next, place_of}
-use borrow.Author.Rules.{rules}
 use Rattle.records.proofs.end.skip.Goals as goal
 
 pub overflow_add-result : goal.overflow_add-result

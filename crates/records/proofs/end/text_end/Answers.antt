@@ -1,8 +1,7 @@
 -- `records::end::text_end` meets its contract.
-use mathlib.Core.Path.{◌≡◌, sym}
+use mathlib.Core.Path.{sym}
 use native.Mathlib.Omega.{arith}
 use borrow.Author.Tests.{le-leb, lt-leb, lt-ltb, le-ltb}
-use borrow.Author.Rules.{rules}
 use Rattle.records.proofs.end.text_end.Goals as goal
 
 pub returns-then-p-at : goal.returns-then-p-at

@@ -7,7 +7,6 @@ use lib.ListN.{length, get_or}
 use Rattle.records.specs.Layout.{fixed}
 use Rattle.records.specs.Late.{late_next, closed}
 use Rattle.records.specs.declared.Extent.TheVariants.{Ends}
-use borrow.Author.Rules.{rules}
 use Rattle.records.proofs.end.text_within.Goals as goal
 
 pub returns-then-p-least : goal.returns-then-p-least

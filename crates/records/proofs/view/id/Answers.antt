@@ -1,6 +1,5 @@
 -- `records::view::id` meets its contract.
 use Rattle.records.specs.Places.{id_of}
-use borrow.Author.Rules.{rules}
 use Rattle.records.proofs.view.id.Goals as goal
 
 pub returns : goal.returns

@@ -1,7 +1,6 @@
 -- `records::view::is_data` meets its contract.
 use native.Mathlib.Omega.{arith}
 use Rattle.records.proofs.Marks.{mark-within, data-letter}
-use borrow.Author.Rules.{rules}
 use Rattle.records.proofs.view.is_data.Goals as goal
 
 pub bounds-p-at : goal.bounds-p-at

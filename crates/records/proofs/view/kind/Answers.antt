@@ -1,8 +1,7 @@
 -- `records::view::kind` meets its contract.
-use mathlib.Core.Path.{◌≡◌, sym, ap, ◌∙◌}
+use mathlib.Core.Path.{sym, ap, ◌∙◌}
 use Rattle.records.specs.Layout.{mark_code}
 use Rattle.records.proofs.Marks.{kind-short}
-use borrow.Author.Rules.{rules}
 use Rattle.records.proofs.view.kind.Goals as goal
 
 pub returns-then-p-start : goal.returns-then-p-start

@@ -2,7 +2,6 @@
 use Prim.Native.Nat.{◌+◌}
 use native.Mathlib.Omega.{arith}
 use Rattle.records.proofs.Marks.{mark-within, kind-product}
-use borrow.Author.Rules.{rules}
 use Rattle.records.proofs.view.kind_number.Goals as goal
 
 pub bounds-p-start : goal.bounds-p-start

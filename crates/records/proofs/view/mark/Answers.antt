@@ -1,5 +1,4 @@
 -- `records::view::mark` meets its contract.
-use borrow.Author.Rules.{rules}
 use Rattle.records.proofs.view.mark.Goals as goal
 
 pub returns : goal.returns

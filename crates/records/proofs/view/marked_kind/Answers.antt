@@ -1,8 +1,6 @@
 -- `records::view::marked_kind` meets its contract: two letters of a mark tell it from the others.
-use Prim.Native.Nat.{◌+◌}
 use native.Mathlib.Omega.{arith}
 use Rattle.records.proofs.Marks.{mark-within, kind-process-data, kind-property, kind-element, kind-presentation, kind-device}
-use borrow.Author.Rules.{rules}
 use Rattle.records.proofs.view.marked_kind.Goals as goal
 
 pub bounds-p-start : goal.bounds-p-start

@@ -1,6 +1,5 @@
 -- `reference_rules::doubles::put_doubled` meets its contract.
 use native.Mathlib.Omega.{arith}
-use borrow.Author.Rules.{rules}
 use Rattle.faults.proofs.Clearing.{puts-clear}
 use Rattle.reference_rules.proofs.doubles.put_doubled.Goals as goal
 

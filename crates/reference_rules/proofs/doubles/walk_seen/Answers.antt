@@ -1,7 +1,7 @@
 -- `reference_rules::doubles::walk_seen` meets its contract: the walk over the entries, and inside it the walk over the DDIs kept.
 use mathlib.Core.Path.{◌≡◌, refl, sym, ap, ◌∙◌, subst}
 use mathlib.Core.List.{[], ◌∷◌}
-use Prim.Native.Nat.{ℕ, ◌+◌, ◌-◌, ◌≤◌}
+use Prim.Native.Nat.{ℕ, ◌+◌, ◌-◌}
 use native.Mathlib.Omega.{arith}
 use Rattle.pool.specs.Walk.{entries_of}
 use Rattle.faults.specs.Rows.{many}
@@ -10,9 +10,9 @@ use Rattle.faults.proofs.Emission.{puts-few, puts-length}
 use Rattle.naming.specs.Naming.{named, tag_of}
 use Rattle.naming.proofs.Names.{names-divided, named-inside}
 use Rattle.rules.specs.Table.{doubled}
-use Rattle.reference_rules.specs.Lists.{entry_tag, Holds}
+use Rattle.reference_rules.specs.Lists.{entry_tag}
 use Rattle.reference_rules.proofs.Seen.{holds-none, holds-here, holds-one, holds-nowhere}
-use Rattle.reference_rules.proofs.Walking.{Walking, walk_start, walk-plain, walk-met, walk-new}
+use Rattle.reference_rules.proofs.Walking.{walk_start, walk-plain, walk-met, walk-new}
 use Rattle.reference_rules.proofs.doubles.walk_seen.Goals as goal
 
 pub entries-init : goal.entries-init

@@ -16,8 +16,8 @@ use Rattle.naming.proofs.Names.{names-divided, named-inside, names-some, names-f
 use Rattle.rules.specs.Table.{doubled, entry_named}
 use Rattle.reference_rules.specs.Lists.{entry_tag}
 use Rattle.reference_rules.proofs.Tags.{tag-nothing, tag-ddi}
-use Rattle.reference_rules.proofs.Linked.{at, at-below, place, Walks, standing-tagged, walk_begins, walk-linked, walk-goes, walk-falls, walks-out}
-use Rattle.reference_rules.proofs.Linking.{Linking, link_start, link-plain, link-known, link-met, link-new}
+use Rattle.reference_rules.proofs.Linked.{at, at-below, Walks, standing-tagged, walk_begins, walk-linked, walk-goes, walk-falls, walks-out}
+use Rattle.reference_rules.proofs.Linking.{link_start, link-plain, link-known, link-met, link-new}
 use Rattle.reference_rules.proofs.links.walk_links.Goals as goal
 
 -- the first entry that names the record decreases. Assumes nothing.

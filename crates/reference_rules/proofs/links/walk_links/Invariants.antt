@@ -1,23 +1,12 @@
 -- `reference_rules::links::walk_links` meets its contract: the walk over the entries, and inside it the walk along the links. The number of
-use mathlib.Core.Path.{◌≡◌, refl, sym, ap, ◌∙◌, subst}
-use mathlib.Core.List.{List, [], ◌∷◌}
-use Prim.Native.Nat.{ℕ, ◌+◌, ◌-◌, ◌<◌, ◌%◌}
-use native.Mathlib.Nat.{mod-lt}
-use native.Mathlib.Omega.{arith}
-use lib.ListN.{length, get_or}
+use mathlib.Core.Path.{◌≡◌}
+use Prim.Native.Nat.{ℕ, ◌+◌, ◌-◌, ◌<◌}
+use lib.ListN.{length}
 use Rattle.pool.specs.Walk.{entries_of}
-use Rattle.faults.specs.Rows.{many}
-use Rattle.faults.specs.Emission.{Puts}
-use Rattle.faults.proofs.Emission.{puts-few, puts-length}
-use Rattle.views.specs.Fields.{entry_of}
-use Rattle.naming.specs.Naming.{named, tag_of}
-use Rattle.naming.specs.Chained.{Names}
-use Rattle.naming.proofs.Names.{names-divided, named-inside, names-some, names-few}
-use Rattle.rules.specs.Table.{doubled, entry_named}
-use Rattle.reference_rules.specs.Lists.{entry_tag}
-use Rattle.reference_rules.proofs.Tags.{tag-nothing, tag-ddi}
-use Rattle.reference_rules.proofs.Linked.{at, at-below, place, Walks, standing-tagged, walk_begins, walk-linked, walk-goes, walk-falls, walks-out}
-use Rattle.reference_rules.proofs.Linking.{Linking, link_start, link-plain, link-known, link-met, link-new}
+use Rattle.naming.specs.Naming.{tag_of}
+use Rattle.rules.specs.Table.{entry_named}
+use Rattle.reference_rules.proofs.Linked.{place, Walks}
+use Rattle.reference_rules.proofs.Linking.{Linking}
 use Rattle.reference_rules.proofs.links.walk_links.Given as goal
 
 abbrev pub invariant-loop-k : goal.invariant-loop-k

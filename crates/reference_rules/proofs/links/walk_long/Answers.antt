@@ -1,6 +1,5 @@
 -- `reference_rules::links::walk_long` meets its contract.
 use mathlib.Core.Path.{refl}
-use borrow.Author.Rules.{rules}
 use Rattle.naming.proofs.Lists.{blank, long}
 use Rattle.naming.proofs.Names.{names-few}
 use Rattle.reference_rules.proofs.links.walk_long.Goals as goal

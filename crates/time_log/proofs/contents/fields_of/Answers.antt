@@ -1,7 +1,6 @@
 -- `time_log::contents::fields_of` meets its contract: each field as it is read.
 use mathlib.Core.Path.{refl}
 use native.Mathlib.Omega.{arith}
-use borrow.Author.Rules.{rules}
 use mir.Syntax.{w32}
 use mir.ValLaws.{to_z-of_z}
 use Rattle.time_log.proofs.Parts.{first-place, place-large}

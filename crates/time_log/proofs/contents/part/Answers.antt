@@ -1,11 +1,9 @@
 -- `time_log::contents::part` meets its contract: the mark says whether the field is present.
 use mathlib.Core.Path.{◌≡◌, sym, ◌∙◌}
-use Prim.Native.Nat.{◌≤◌}
 use native.Mathlib.Nat.{lt_of_lt_of_le}
 use native.Mathlib.Omega.{arith}
-use borrow.Author.Rules.{rules}
 use Rattle.wire.proofs.Width.{narrower, positive}
-use Rattle.time_log.specs.Layout.{width, part_width, place_of}
+use Rattle.time_log.specs.Layout.{width, part_width}
 use Rattle.time_log.proofs.Parts.{width_small, unmarked, marked, part-there}
 use Rattle.time_log.proofs.Numbers.{read-part, absent}
 use Rattle.time_log.proofs.contents.part.Goals as goal

@@ -1,6 +1,5 @@
 -- `time_log::contents::places_of` meets its contract: the widths of the marked fields added up.
 use native.Mathlib.Omega.{arith}
-use borrow.Author.Rules.{rules}
 use Rattle.time_log.specs.Layout.{place_of, part_width}
 use Rattle.time_log.proofs.contents.places_of.Goals as goal
 

@@ -1,9 +1,6 @@
 -- `time_log::judging::any_over` meets its contract: the result is that of the ordinals that are still to be looked at.
-use mathlib.Core.Path.{◌≡◌, refl, sym, ◌∙◌}
-use Prim.Native.Nat.{◌+◌, ◌*◌, ◌-◌, ◌≤◌}
+use mathlib.Core.Path.{refl, ◌∙◌}
 use native.Mathlib.Omega.{arith}
-use Rattle.time_log.specs.Contents.{spaced}
-use Rattle.time_log.specs.Judging.{one_over}
 use Rattle.time_log.proofs.Runs.{over-high, four-here, four-next}
 use Rattle.time_log.proofs.judging.any_over.Goals as goal
 

@@ -1,7 +1,6 @@
 -- `time_log::judging::fields_refusal` meets its contract: each return is a case of the definition.
 use mathlib.Core.Path.{sym, ◌∙◌}
-use borrow.Author.Tests.{lt-ltb, le-ltb, not-true, not-false}
-use borrow.Author.Rules.{rules}
+use borrow.Author.Tests.{lt-ltb, le-ltb}
 use Rattle.time_log.specs.Within.{refusal_by}
 use Rattle.time_log.proofs.judging.fields_refusal.Goals as goal
 

@@ -1,6 +1,5 @@
 -- `time_log::judging::judged` meets its contract: each field is judged by its size.
 use mathlib.Core.Path.{◌≡◌, ap, ◌∙◌}
-use borrow.Author.Rules.{rules}
 use Prim.Native.Nat.{ℕ}
 use lib.IntN.{nat_abs}
 use mir.Syntax.{w32}

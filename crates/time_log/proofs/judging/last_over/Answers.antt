@@ -1,9 +1,6 @@
 -- `time_log::judging::last_over` meets its contract: the result is that of the ordinals that are still to be looked at.
-use mathlib.Core.Path.{◌≡◌, refl, sym, ◌∙◌}
-use Prim.Native.Nat.{◌+◌, ◌*◌, ◌-◌, ◌≤◌}
+use mathlib.Core.Path.{refl, sym, ◌∙◌}
 use native.Mathlib.Omega.{arith}
-use Rattle.time_log.specs.Contents.{spaced}
-use Rattle.time_log.specs.Judging.{one_over}
 use Rattle.time_log.proofs.Runs.{over_none, over-here, over-next}
 use Rattle.time_log.proofs.judging.last_over.Goals as goal
 

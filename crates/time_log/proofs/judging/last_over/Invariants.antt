@@ -1,10 +1,8 @@
 -- `time_log::judging::last_over` meets its contract: the result is that of the ordinals that are still to be looked at.
-use mathlib.Core.Path.{◌≡◌, refl, sym, ◌∙◌}
-use Prim.Native.Nat.{◌+◌, ◌*◌, ◌-◌, ◌≤◌}
-use native.Mathlib.Omega.{arith}
+use mathlib.Core.Path.{◌≡◌}
+use Prim.Native.Nat.{◌+◌, ◌*◌}
 use Rattle.time_log.specs.Contents.{spaced}
 use Rattle.time_log.specs.Judging.{one_over}
-use Rattle.time_log.proofs.Runs.{over_none, over-here, over-next}
 use Rattle.time_log.proofs.judging.last_over.Given as goal
 
 abbrev pub invariant-loop-left : goal.invariant-loop-left

@@ -1,7 +1,6 @@
 -- `time_log::judging::refusal` meets its contract: each return is a case of the definition.
 use mathlib.Core.Path.{refl}
 use native.Mathlib.Omega.{arith}
-use borrow.Author.Rules.{rules}
 use Rattle.time_log.specs.Layout.{record_length}
 use Rattle.time_log.proofs.Parts.{first-place, place-small, place-large}
 use Rattle.time_log.proofs.Refusals.{ends-early, ends-inside, by-fields}

@@ -1,6 +1,5 @@
 -- `time_log::judging::size_of` meets its contract: below the middle the number itself, and above it its two's complement.
 use native.Mathlib.Omega.{arith}
-use borrow.Author.Rules.{rules}
 use Rattle.time_log.proofs.Numbers.{size_low, size-high}
 use Rattle.time_log.proofs.judging.size_of.Goals as goal
 
