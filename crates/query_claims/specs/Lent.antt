@@ -1,6 +1,7 @@
 -- What `device_pool::text` gives: a text as a slice of the pool that was lent, tied to the whole of its contract. Definitions only.
 use Rattle.std.specs.Prelude.{ℕ, ◌≡◌, refl, List, ◌++◌, length}
-use denote.Ref.{MutBor, at_last}
+use denote.Bor.{Bor}
+use denote.MutBor.{MutBor, at_last}
 use contract.Lifetimes.{Lfts}
 use Rattle.wire.specs.Parts.{place_in}
 use Rattle.working_table.specs.declared.Record.{Record}
@@ -11,11 +12,11 @@ use Rattle.device_pool.specs.contracts.text as text-rattle
 
 -- what the contract says: its own text, which `refl` holds to the whole of the contract, so it asks nothing of its caller and no
 -- clause can be left out
-abbrev pub text_says : Says text-rattle.ended (λ M. text-rattle.clauses)
+abbrev pub text_says : Says text-rattle.ended (λ M 𝓤 𝓛. text-rattle.clauses 𝓛)
 text_says = record { Learnt = _; exact = λ w. refl }
 
 -- a slice is a part of another, in the same memory: it points behind the bytes that stand before its own
-pub record PartOf (p r : MutBor (List ℕ)) : Type 0 where
+pub record PartOf (p r : Bor (List ℕ)) : Type 0 where
   pub before : List ℕ
   pub after : List ℕ
   pub bytes : p.now ≡ before ++ (r.now ++ after)
@@ -23,7 +24,7 @@ pub record PartOf (p r : MutBor (List ℕ)) : Type 0 where
 
 -- a text given: the number and the bytes, of which `QueriesAreParts` says by the division what they mean; it points to where the
 -- text stands, after a refusal to the pool's start, and lies in the pool that was lent
-pub record TextGiven (p : MutBor (List ℕ)) (before : List Record) (id : ℕ) (r : MutBor (List ℕ)) (number : ℕ) (left : List Record) : Type 0 where
+pub record TextGiven (p : Bor (List ℕ)) (before : List Record) (id : ℕ) (r : Bor (List ℕ)) (number : ℕ) (left : List Record) : Type 0 where
   pub answered : number ≡ text_number p.now (length before) id
   pub bytes : r.now ≡ text_of p.now (length before) id
   pub place : r.ref_ptr ≡ place_in p (text_span p.now (length before) id).from
@@ -33,5 +34,5 @@ pub record TextGiven (p : MutBor (List ℕ)) (before : List Record) (id : ℕ) (
 -- of whatever is given
 abbrev pub TextsLent : Type 0
 TextsLent =
-    (κs : Lfts 3) (p : MutBor (List ℕ)) (t : MutBor (List Record)) (id : ℕ) (n : MutBor ℕ) (r : MutBor (List ℕ)) (t' : List Record) (n' : ℕ)
+    (κs : Lfts 3) (p : Bor (List ℕ)) (t : MutBor (List Record)) (id : ℕ) (n : MutBor ℕ) (r : Bor (List ℕ)) (t' : List Record) (n' : ℕ)
     → text_says.Learnt κs (p, (t, (id, (n, tt)))) r (p, (at_last t t', (id, (at_last n n', tt)))) → TextGiven p t.now id r n' t'

@@ -1,5 +1,4 @@
 -- `query_claims::texts_are_lent` meets its contract, which is the claim itself: what the contract of `device_pool::text` says, in the
--- claim's words. Assumes nothing.
 use mathlib.Core.Path.{◌≡◌, sym, ap, ◌∙◌}
 use mathlib.Core.List.{List, ◌++◌}
 use Prim.Native.Nat.{ℕ, ◌-◌}
@@ -12,9 +11,9 @@ use Rattle.claims.proofs.Verdict.{reading}
 use Rattle.queries.specs.Queries.{text_span, text_of}
 use Rattle.query_claims.specs.Lent.{PartOf}
 use Rattle.query_claims.proofs.Queries.{text-begins}
-use Rattle.query_claims.proofs.texts_are_lent.Statement.{statement}
-use Rattle.query_claims.proofs.texts_are_lent.Tie as tie
+use Rattle.query_claims.proofs.texts_are_lent.Goals as goal
 
+-- claim's words. Assumes nothing.
 -- the bytes before a text, its own, and those behind it
 around : (p : List ℕ) (room id : ℕ)
     → p ≡ take (text_span p room id).from p ++ (text_of p room id ++ drop ((text_span p room id).to - (text_span p room id).from) (drop (text_span p room id).from p))
@@ -32,7 +31,7 @@ part p r room id e a =
       place = rw (length-take-le (text_span p.now room id).from p.now (text-begins p.now room id)) a;
     }
 
-returns : tie.Need-returns
+pub returns : goal.returns
 returns c = λ κs p t id n r t' n' h. record {
   answered = h.2;
   bytes = h.0;
@@ -40,6 +39,3 @@ returns c = λ κs p t id n r t' n' h. record {
   part = part p r (length t.now) id h.0 h.1;
   table = rw h.3 ((reading p.now (length t.now)).table t.now);
 }
-
-pub texts-are-lent-spec : {M : Type 1} → statement M
-texts-are-lent-spec = tie.close (tie.spec returns)

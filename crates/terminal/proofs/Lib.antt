@@ -1,5 +1,0 @@
--- Laws that are not about a single function.
-pub mod Reading
-pub mod Checking
-pub mod Finding
-pub mod Judging

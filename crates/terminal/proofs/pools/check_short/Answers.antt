@@ -1,0 +1,24 @@
+-- `terminal::pools::check_short`: the list that is left gives the table after the call.
+use Rattle.std.proofs.Common.{◌≡◌, ℕ, ◌∙◌, ap, sym, subst, length}
+use Rattle.checker.specs.Checking.{check_of}
+use Rattle.c_answers.specs.Numbers.{Says}
+use Rattle.checker.proofs.Tables.{check-gathers}
+use Rattle.working_table.specs.Rows.{gathered}
+use Rattle.terminal.proofs.pools.check_short.Goals as goal
+
+pub gather-requires : goal.gather-requires
+gather-requires c =
+    let a = c.args in
+    let t = c.check_told-told in
+    let g = check-gathers a.p.now t.new.starts t.result.records a.table.now t.ensures.2 t.ensures.1 in
+    rw c.told_records.ensures g.fillable
+
+pub returns : goal.returns
+returns c =
+    let a = c.args in
+    let t = c.check_told-told in
+    let g = check-gathers a.p.now t.new.starts t.result.records a.table.now t.ensures.2 t.ensures.1 in (
+      subst (λ (n : ℕ). Says (check_of a.p.now (length a.table.now)) n t.new.value) (sym c.told_number.ensures) t.ensures.0,
+      c.gather.ensures ∙ ap (λ (n : ℕ). gathered a.p.now t.new.starts n a.table.now) c.told_records.ensures ∙ g.after,
+      t.ensures.3,
+    )
