@@ -1,7 +1,7 @@
 -- The plain book of document 01: what a client sent, and what it was told. It depends on the calls' arguments and on the lengths of the
 -- two areas only. It uses no definition of a session; from other crates it uses only checking and the table after reading.
 -- Definitions only.
-use Rattle.std.specs.Prelude.{ℕ, ◌-◌, Bool, true, false, cond, not, ◌&&◌, ◌||◌, List, [], ◌∷◌, ◌++◌, eqb, ltb, length}
+use Rattle.std.specs.Prelude.{if◌then◌else◌, ℕ, ◌-◌, Bool, true, false, cond, not, ◌&&◌, ◌||◌, List, [], ◌∷◌, ◌++◌, eqb, ltb, length}
 use Rattle.pool.specs.Answer.{Answer}
 use Rattle.working_table.specs.declared.Record.{Record}
 use Rattle.working_table.specs.Table.{records_after}
@@ -51,11 +51,6 @@ pub record Noted : Type 0 where
 -- a call after which the book is this one, and whose answer is a number without a place
 abbrev pub note : Book → ℕ → Noted
 note b n = record { book = b; told = said n 0 }
-
--- a choice by a test: another notation for `cond`
-infixr 10 if◌then◌else◌
-abbrev pub if◌then◌else◌ {ℓ} : {A : Type ℓ} → Bool → A → A → A
-if t then a else b = cond t a b
 
 -- the first fault of a list, zeros if there is none
 abbrev pub first_in : List FaultEntry → FaultEntry

@@ -71,8 +71,8 @@ further n room size (pos (suc k)) e = go (leb (suc k) room) refl
 pub comes : (n room : ℕ) (z : ℤ) (size : ℕ) (r : Input) → r ≡ input_after n z room → n + room ≡ size → Further n size r
 comes n room z size r e h = subst (Further n size) (sym e) (further n room size z h)
 
-pub over : (n size : ℕ) (r : Input) → OneOf (1 ∷ 2 ∷ []) (tag_of the_type r) → n ≤ size → Further n size r → Over size r
-over n size (More m) j h f = absurd (⊎_elim (λ e. omega arith) (λ e. omega arith) j)
+pub over : (n size : ℕ) (r : Input) → ((m : ℕ) → r ≡ More m → ⊥) → n ≤ size → Further n size r → Over size r
+over n size (More m) j h f = j m refl
 over n size (Ended m) j h f = omega arith
 over n size Failed j h f = tt
 

@@ -5,7 +5,7 @@
 ghost use Rattle.std.specs.Prelude.{◌+◌, ◌^◌, ◌≤◌, ◌<◌, ◌≡◌, length};
 ghost use Rattle.lister.specs.Reading.{input_after, Further, Over};
 
-use libc::{STDERR_FILENO, STDIN_FILENO, STDOUT_FILENO};
+use std::io::{Read, Write};
 
 // How far reading has come: this many bytes and perhaps more to come, all bytes, namely this many, or a read that failed.
 #[derive(Clone, Copy)]
@@ -34,22 +34,30 @@ fn read_on(n: usize, got: isize, room: usize) -> Input
     Input::Failed
 }
 
-fn read_more(input: &mut [u8], n: usize) -> Input
+// How many bytes a read gave, or a negative number if it failed.
+fn read_part(rt: &HostRuntime, part: &mut [u8]) -> isize {
+    match rt.stdin().read(part) {
+        Ok(count) => isize::try_from(count).unwrap_or(-1),
+        Err(_) => -1,
+    }
+}
+
+fn read_more(rt: &HostRuntime, input: &mut [u8], n: usize) -> Input
     requires { n ≤ length input.old }
     ensures { Further n (length input.old) result }
 {
     let part = &mut input[n..];
-    let got = libc::read(STDIN_FILENO, part);
+    let got = read_part(rt, part);
     read_on(n, got, part.len())
 }
 
 // Reads to the end of the input or of the buffer.
-fn read_input(input: &mut [u8]) -> Input
+fn read_input(rt: &HostRuntime, input: &mut [u8]) -> Input
     ensures { Over (length input.old) result }
 {
     let mut n: usize = 0;
     while n < input.len() {
-        let next = read_more(input, n);
+        let next = read_more(rt, input, n);
         let Input::More(m) = next else {
             return next;
         };
@@ -58,32 +66,34 @@ fn read_input(input: &mut [u8]) -> Input
     Input::Ended(n)
 }
 
-// Writes a listing to standard output. A write that fails is reported on standard error.
-fn write_out(listing: &[u8]) {
-    if io::write_all(STDOUT_FILENO, listing) {
-        return;
-    }
-    io::write_all(
-        STDERR_FILENO,
-        b"lister: standard output cannot be written\n",
-    );
+// Reports a failure on standard error. If that fails too, there is nobody left to tell.
+fn report(rt: &HostRuntime, message: &[u8]) {
+    let _ = rt.stderr().write_all(message);
 }
 
-fn run(input: &mut [u8], out: &mut [u8])
+// Writes a listing to standard output. A write that fails is reported on standard error.
+fn write_out(rt: &HostRuntime, listing: &[u8]) {
+    if rt.stdout().write_all(listing).is_ok() {
+        return;
+    }
+    report(rt, b"lister: standard output cannot be written\n");
+}
+
+fn run(rt: &HostRuntime, input: &mut [u8], out: &mut [u8])
     requires { 102413 ≤ length out.old }
 {
-    let read = read_input(input);
+    let read = read_input(rt, input);
     let Input::Ended(n) = read else {
-        io::write_all(STDERR_FILENO, b"lister: standard input cannot be read\n");
+        report(rt, b"lister: standard input cannot be read\n");
         return;
     };
     let end = pool_listing::list(&input[..n], out);
-    write_out(&out[..end]);
+    write_out(rt, &out[..end]);
 }
 
 // The input buffer has one byte more than a pool may have, so that too long an input is noticed.
-fn main() {
+fn main(rt: HostRuntime) {
     let mut input = [0u8; 65536];
     let mut out = [0u8; 102413];
-    run(&mut input, &mut out);
+    run(&rt, &mut input, &mut out);
 }

@@ -15,8 +15,7 @@ fn decimals_in(decimals: u32) -> u8
 }
 
 // The result is 0, or 50 with a value of 0 if the scale or the decimals are out of range.
-#[unsafe(no_mangle)]
-pub extern "C" fn lachsbrille_displayed(
+pub fn lachsbrille_displayed(
     value: i32,
     offset: i32,
     scale: f32,

@@ -10,16 +10,14 @@ use c_answers::MessageFields;
 use working_table::Record;
 
 // Reads a message.
-#[unsafe(no_mangle)]
-pub extern "C" fn lachsbrille_message_read(bytes: &[u8]) -> MessageFields
+pub fn lachsbrille_message_read(bytes: &[u8]) -> MessageFields
     ensures { fields_in result ≡ read_of bytes.now }
 {
     c_answers::give_message(messages::read(bytes))
 }
 
 // Writes a value message.
-#[unsafe(no_mangle)]
-pub extern "C" fn lachsbrille_message_write_value(
+pub fn lachsbrille_message_write_value(
     to: &mut [u8],
     command: u32,
     element: u32,
@@ -32,8 +30,7 @@ pub extern "C" fn lachsbrille_message_write_value(
 }
 
 // Writes an acknowledge.
-#[unsafe(no_mangle)]
-pub extern "C" fn lachsbrille_message_write_acknowledge(
+pub fn lachsbrille_message_write_acknowledge(
     to: &mut [u8],
     element: u32,
     ddi: u16,
@@ -46,8 +43,7 @@ pub extern "C" fn lachsbrille_message_write_acknowledge(
 }
 
 // Judges a command to the device. The error byte is written to the lent byte, 0 if the call is refused.
-#[unsafe(no_mangle)]
-pub extern "C" fn lachsbrille_judge(
+pub fn lachsbrille_judge(
     p: &[u8],
     table: &mut [Record],
     command: u32,

@@ -22,16 +22,14 @@ ghost use Rattle.c_answers.specs.Numbers.{Says};
 ghost use Rattle.terminal.specs.Texts.{Gives};
 
 // The release: major * 10,000 + minor * 100 + patch.
-#[unsafe(no_mangle)]
-pub extern "C" fn lachsbrille_version() -> u32
+pub fn lachsbrille_version() -> u32
     ensures { result ≡ 20000 }
 {
     20000
 }
 
 // Reads a pool into the table. The count of records or the refusal's place is written to the lent number.
-#[unsafe(no_mangle)]
-pub extern "C" fn lachsbrille_read(p: &[u8], table: &mut [Record], value: &mut usize) -> u32
+pub fn lachsbrille_read(p: &[u8], table: &mut [Record], value: &mut usize) -> u32
     ensures { Says (read_of p.now (length table.old)) result value.new × (table.new ≡ records_after p.now table.old) }
 {
     if p.len() <= 12276 {
@@ -41,8 +39,7 @@ pub extern "C" fn lachsbrille_read(p: &[u8], table: &mut [Record], value: &mut u
 }
 
 // Checks a pool. The full count of faults or the refusal's place is written to the lent number.
-#[unsafe(no_mangle)]
-pub extern "C" fn lachsbrille_check(
+pub fn lachsbrille_check(
     p: &[u8],
     table: &mut [Record],
     faults: &mut [u16],
@@ -57,16 +54,14 @@ pub extern "C" fn lachsbrille_check(
 }
 
 // Whether a text keeps rule 4.
-#[unsafe(no_mangle)]
-pub extern "C" fn lachsbrille_text_is_sound(s: &[u8]) -> bool
+pub fn lachsbrille_text_is_sound(s: &[u8]) -> bool
     ensures { result ≡ sound_text s.now }
 {
     text::is_sound(s)
 }
 
 // Finds the text of the first record with an ID. The places in the pool where it begins and ends are written to the lent numbers.
-#[unsafe(no_mangle)]
-pub extern "C" fn lachsbrille_text(
+pub fn lachsbrille_text(
     p: &[u8],
     table: &mut [Record],
     id: u32,
@@ -82,8 +77,7 @@ pub extern "C" fn lachsbrille_text(
 }
 
 // The labels of the device, as a struct by value.
-#[unsafe(no_mangle)]
-pub extern "C" fn lachsbrille_labels(p: &[u8], table: &mut [Record]) -> DeviceLabels
+pub fn lachsbrille_labels(p: &[u8], table: &mut [Record]) -> DeviceLabels
     ensures { Labelled p.now (length table.old) result × (table.new ≡ records_after p.now table.old) }
 {
     if p.len() <= 12276 {

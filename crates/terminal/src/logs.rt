@@ -10,16 +10,14 @@ use log_writing::Written;
 use time_log::{Fields, Marks};
 
 // The number of optional fields that a layout marks.
-#[unsafe(no_mangle)]
-pub extern "C" fn lachsbrille_log_optional_fields(layout: u32) -> Marks
+pub fn lachsbrille_log_optional_fields(layout: u32) -> Marks
     ensures { (result.number ≡ cond (ltb 511 layout) 47 0) × (result.count ≡ cond (ltb 511 layout) 0 (marks_set layout)) }
 {
     time_log::optional_fields(layout)
 }
 
 // Reads the record that the bytes start with.
-#[unsafe(no_mangle)]
-pub extern "C" fn lachsbrille_log_read_record(
+pub fn lachsbrille_log_read_record(
     bytes: &[u8],
     layout: u32,
     logged: usize,
@@ -33,8 +31,7 @@ pub extern "C" fn lachsbrille_log_read_record(
 
 // Writes a record of the first `count` ordinals and values. The fields are passed by reference: x86-64 and aarch64 pass a struct of
 // their size by value in different ways.
-#[unsafe(no_mangle)]
-pub extern "C" fn lachsbrille_log_write_record(
+pub fn lachsbrille_log_write_record(
     to: &mut [u8],
     layout: u32,
     fields: &Fields,
@@ -49,8 +46,7 @@ pub extern "C" fn lachsbrille_log_write_record(
 }
 
 // Reads the records of a log to its end.
-#[unsafe(no_mangle)]
-pub extern "C" fn lachsbrille_log_read(bytes: &[u8], layout: u32, logged: usize) -> Log
+pub fn lachsbrille_log_read(bytes: &[u8], layout: u32, logged: usize) -> Log
     ensures { result ≡ log_of layout logged bytes.now }
 {
     log_reading::read_log(bytes, layout, logged)

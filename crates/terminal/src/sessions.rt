@@ -9,16 +9,14 @@ use session::Session;
 use working_table::Record;
 
 // A new session: nothing offered, kept or active.
-#[unsafe(no_mangle)]
-pub extern "C" fn lachsbrille_session_new() -> Session
+pub fn lachsbrille_session_new() -> Session
     ensures { result ≡ new_session }
 {
     session::new()
 }
 
 // Announces the size of a pool. Of the areas only the lengths matter.
-#[unsafe(no_mangle)]
-pub extern "C" fn lachsbrille_session_offer(
+pub fn lachsbrille_session_offer(
     s: Session,
     size: usize,
     staging: &[u8],
@@ -30,8 +28,7 @@ pub extern "C" fn lachsbrille_session_offer(
 }
 
 // Copies a piece of the pool into staging.
-#[unsafe(no_mangle)]
-pub extern "C" fn lachsbrille_session_transfer(
+pub fn lachsbrille_session_transfer(
     s: Session,
     piece: &[u8],
     staging: &mut [u8],
@@ -42,8 +39,7 @@ pub extern "C" fn lachsbrille_session_transfer(
 }
 
 // Activates the pool that is offered, or else the one that is kept.
-#[unsafe(no_mangle)]
-pub extern "C" fn lachsbrille_session_activate(
+pub fn lachsbrille_session_activate(
     s: Session,
     staging: &[u8],
     kept: &mut [u8],
@@ -63,24 +59,21 @@ pub extern "C" fn lachsbrille_session_activate(
 }
 
 // Deactivates the pool.
-#[unsafe(no_mangle)]
-pub extern "C" fn lachsbrille_session_deactivate(s: Session) -> StepFields
+pub fn lachsbrille_session_deactivate(s: Session) -> StepFields
     ensures { step_in result ≡ deactivate_of s }
 {
     c_answers::give_step(session::deactivate(s))
 }
 
 // Forgets the pool that is kept, and an offer.
-#[unsafe(no_mangle)]
-pub extern "C" fn lachsbrille_session_delete(s: Session) -> StepFields
+pub fn lachsbrille_session_delete(s: Session) -> StepFields
     ensures { step_in result ≡ delete_of s }
 {
     c_answers::give_step(session::delete(s))
 }
 
 // The connection is lost: no pool is active, an offer is forgotten, and a kept pool stays kept.
-#[unsafe(no_mangle)]
-pub extern "C" fn lachsbrille_session_lost(s: Session) -> StepFields
+pub fn lachsbrille_session_lost(s: Session) -> StepFields
     ensures { step_in result ≡ lost_of s }
 {
     c_answers::give_step(session::lost(s))

@@ -1,0 +1,81 @@
+// The C interface as a static library: each export calls the function of `terminal` with its name, and states its clauses again.
+// Numbers and lent memory cross. A call returns 0 or the number of a refusal; a count or a place is written to a lent
+// number. The working table is a lent slice of records.
+#![tactic(auto)]
+
+use queries::DeviceLabels;
+use working_table::Record;
+
+pub mod display;
+pub mod exchange;
+pub mod logs;
+pub mod objects;
+pub mod sessions;
+
+ghost use Rattle.std.specs.Prelude.{◌≡◌, length};
+ghost use Rattle.pool.specs.Reading.{read_of};
+ghost use Rattle.working_table.specs.Table.{records_after};
+ghost use Rattle.text.specs.Examined.{sound_text};
+ghost use Rattle.checker.specs.Checking.{check_of, faults_after};
+ghost use Rattle.queries.specs.Queries.{Labelled};
+ghost use Rattle.c_answers.specs.Numbers.{Says};
+ghost use Rattle.terminal.specs.Texts.{Gives};
+
+// The release: major * 10,000 + minor * 100 + patch.
+#[unsafe(no_mangle)]
+pub extern "C" fn lachsbrille_version() -> u32
+    ensures { result ≡ 20000 }
+{
+    terminal::lachsbrille_version()
+}
+
+// Reads a pool into the table. The count of records or the refusal's place is written to the lent number.
+#[unsafe(no_mangle)]
+pub extern "C" fn lachsbrille_read(p: &[u8], table: &mut [Record], value: &mut usize) -> u32
+    ensures { Says (read_of p.now (length table.old)) result value.new × (table.new ≡ records_after p.now table.old) }
+{
+    terminal::lachsbrille_read(p, table, value)
+}
+
+// Checks a pool. The full count of faults or the refusal's place is written to the lent number.
+#[unsafe(no_mangle)]
+pub extern "C" fn lachsbrille_check(
+    p: &[u8],
+    table: &mut [Record],
+    faults: &mut [u16],
+    value: &mut usize,
+) -> u32
+    ensures { Says (check_of p.now (length table.old)) result value.new × (table.new ≡ records_after p.now table.old) × (faults.new ≡ faults_after p.now (length table.old) faults.old) }
+{
+    terminal::lachsbrille_check(p, table, faults, value)
+}
+
+// Whether a text keeps rule 4.
+#[unsafe(no_mangle)]
+pub extern "C" fn lachsbrille_text_is_sound(s: &[u8]) -> bool
+    ensures { result ≡ sound_text s.now }
+{
+    terminal::lachsbrille_text_is_sound(s)
+}
+
+// Finds the text of the first record with an ID. The places in the pool where it begins and ends are written to the lent numbers.
+#[unsafe(no_mangle)]
+pub extern "C" fn lachsbrille_text(
+    p: &[u8],
+    table: &mut [Record],
+    id: u32,
+    from: &mut usize,
+    to: &mut usize,
+) -> u32
+    ensures { Gives p.now (length table.old) id result from.new to.new × (table.new ≡ records_after p.now table.old) }
+{
+    terminal::lachsbrille_text(p, table, id, from, to)
+}
+
+// The labels of the device, as a struct by value.
+#[unsafe(no_mangle)]
+pub extern "C" fn lachsbrille_labels(p: &[u8], table: &mut [Record]) -> DeviceLabels
+    ensures { Labelled p.now (length table.old) result × (table.new ≡ records_after p.now table.old) }
+{
+    terminal::lachsbrille_labels(p, table)
+}

@@ -1,0 +1,79 @@
+// A client's session for C: the session value is the same as in Rattle, and the step is returned as numbers.
+ghost use Rattle.std.specs.Prelude.{◌≡◌, length};
+ghost use Rattle.session.specs.Calls.{new_session, offer_of, transfer_of, staging_after, deactivate_of, delete_of, lost_of};
+ghost use Rattle.activation.specs.Activating.{activate_of, kept_after, records_activated};
+ghost use Rattle.c_answers.specs.Steps.{step_in};
+
+use c_answers::StepFields;
+use session::Session;
+use working_table::Record;
+
+// A new session: nothing offered, kept or active.
+#[unsafe(no_mangle)]
+pub extern "C" fn lachsbrille_session_new() -> Session
+    ensures { result ≡ new_session }
+{
+    terminal::sessions::lachsbrille_session_new()
+}
+
+// Announces the size of a pool. Of the areas only the lengths matter.
+#[unsafe(no_mangle)]
+pub extern "C" fn lachsbrille_session_offer(
+    s: Session,
+    size: usize,
+    staging: &[u8],
+    kept: &[u8],
+) -> StepFields
+    ensures { step_in result ≡ offer_of s size (length staging.now) (length kept.now) }
+{
+    terminal::sessions::lachsbrille_session_offer(s, size, staging, kept)
+}
+
+// Copies a piece of the pool into staging.
+#[unsafe(no_mangle)]
+pub extern "C" fn lachsbrille_session_transfer(
+    s: Session,
+    piece: &[u8],
+    staging: &mut [u8],
+) -> StepFields
+    ensures { (step_in result ≡ transfer_of s piece.now (length staging.old)) × (staging.new ≡ staging_after s piece.now staging.old) }
+{
+    terminal::sessions::lachsbrille_session_transfer(s, piece, staging)
+}
+
+// Activates the pool that is offered, or else the one that is kept.
+#[unsafe(no_mangle)]
+pub extern "C" fn lachsbrille_session_activate(
+    s: Session,
+    staging: &[u8],
+    kept: &mut [u8],
+    table: &mut [Record],
+) -> StepFields
+    ensures { (step_in result ≡ activate_of s staging.now (length kept.old) (length table.old)) × (kept.new ≡ kept_after s staging.now kept.old (length table.old)) × (table.new ≡ records_activated s staging.now (length kept.old) table.old) }
+{
+    terminal::sessions::lachsbrille_session_activate(s, staging, kept, table)
+}
+
+// Deactivates the pool.
+#[unsafe(no_mangle)]
+pub extern "C" fn lachsbrille_session_deactivate(s: Session) -> StepFields
+    ensures { step_in result ≡ deactivate_of s }
+{
+    terminal::sessions::lachsbrille_session_deactivate(s)
+}
+
+// Forgets the pool that is kept, and an offer.
+#[unsafe(no_mangle)]
+pub extern "C" fn lachsbrille_session_delete(s: Session) -> StepFields
+    ensures { step_in result ≡ delete_of s }
+{
+    terminal::sessions::lachsbrille_session_delete(s)
+}
+
+// The connection is lost: no pool is active, an offer is forgotten, and a kept pool stays kept.
+#[unsafe(no_mangle)]
+pub extern "C" fn lachsbrille_session_lost(s: Session) -> StepFields
+    ensures { step_in result ≡ lost_of s }
+{
+    terminal::sessions::lachsbrille_session_lost(s)
+}
