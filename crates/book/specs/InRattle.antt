@@ -1,6 +1,5 @@
--- The session calls of Rattle. Each call's outcome is one that the contract of its function allows: `Asked` and `Learnt` are the
--- prover's own readings of what a function asks of its caller and of what it promises, so no contract is repeated here.
--- Definitions only.
+-- The session calls of Rattle. Each call's outcome is one that the contract of its function allows: `Asked` and `Learnt` are what the
+-- contract asks of a caller and what it promises, read off its own text, so no contract is repeated here. Definitions only.
 use Rattle.std.specs.Prelude.{refl, List, [], ℕ}
 use denote.Bor.{Bor}
 use denote.MutBor.{MutBor}
@@ -22,8 +21,7 @@ use Rattle.book.specs.Says.{Says, Reading, Asked, nothing}
 use Rattle.book.specs.Book.{Said, Call, offer, transfer, activate, deactivate, delete, lost}
 use Rattle.book.specs.Run.{Functions}
 
--- what activating promises. The prover has no such reading for it, since it takes a slice of records: so this is the contract's own
--- text, and `refl` checks that it is the whole contract. It asks nothing of its caller
+-- what activating promises: the contract's own text, and `refl` checks that it is the whole contract. It asks nothing of its caller
 abbrev pub activate_says : Says activate-contract.ended (λ M 𝓤 𝓛. activate-contract.clauses 𝓛)
 activate_says = record { Learnt = _; exact = λ w. refl }
 

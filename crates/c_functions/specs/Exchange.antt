@@ -1,6 +1,7 @@
 -- What the C functions for messages and the displayed value promise. Definitions only.
 use Rattle.std.specs.Prelude.{ℕ, ◌≡◌, refl, List, ℤ, Float, length}
-use denote.Ref.{MutBor, at_last}
+use denote.Bor.{Bor}
+use denote.MutBor.{MutBor, at_last}
 use contract.Lifetimes.{Lfts}
 use Rattle.messages.specs.Reading.{read_of}
 use Rattle.messages.specs.Writing.{value_refusal, value_after, acknowledge_refusal, acknowledge_after}
@@ -17,24 +18,24 @@ use Rattle.terminal.specs.contracts.display.lachsbrille_displayed as displayed-c
 -- caller, and no clause can be left out.
 
 -- what the contract of `lachsbrille_message_read` says
-abbrev pub message_says : Says message-c.ended (λ M. message-c.clauses)
+abbrev pub message_says : Says message-c.ended (λ M 𝓤 𝓛. message-c.clauses 𝓛)
 message_says = record { Learnt = _; exact = λ w. refl }
 
 -- what the contract of `lachsbrille_message_write_value` says
-abbrev pub value_says : Says value-c.ended (λ M. value-c.clauses)
+abbrev pub value_says : Says value-c.ended (λ M 𝓤 𝓛. value-c.clauses 𝓛)
 value_says = record { Learnt = _; exact = λ w. refl }
 
 -- what the contract of `lachsbrille_message_write_acknowledge` says
-abbrev pub acknowledge_says : Says acknowledge-c.ended (λ M. acknowledge-c.clauses)
+abbrev pub acknowledge_says : Says acknowledge-c.ended (λ M 𝓤 𝓛. acknowledge-c.clauses 𝓛)
 acknowledge_says = record { Learnt = _; exact = λ w. refl }
 
 -- what the contract of `lachsbrille_displayed` says
-abbrev pub displayed_says : Says displayed-c.ended (λ M. displayed-c.clauses)
+abbrev pub displayed_says : Says displayed-c.ended (λ M 𝓤 𝓛. displayed-c.clauses 𝓛)
 displayed_says = record { Learnt = _; exact = λ w. refl }
 
 -- for all arguments: messages are read and written, and values displayed, as the definitions say, which also give the lent memory
 pub record MessagesExchanged : Type 0 where
-  pub read : (κs : Lfts 1) (s : MutBor (List ℕ)) (r : MessageFields) → message_says.Learnt κs (s, tt) r (s, tt) → fields_in r ≡ read_of s.now
+  pub read : (κs : Lfts 1) (s : Bor (List ℕ)) (r : MessageFields) → message_says.Learnt κs (s, tt) r (s, tt) → fields_in r ≡ read_of s.now
   pub value : (κs : Lfts 1) (to : MutBor (List ℕ)) (command element ddi : ℕ) (value : ℤ) (r : ℕ) (to' : List ℕ)
       → value_says.Learnt κs (to, (command, (element, (ddi, (value, tt))))) r (at_last to to', (command, (element, (ddi, (value, tt)))))
       → (r ≡ value_refusal command element (length to.now)) × (to' ≡ value_after to.now command element ddi value)

@@ -1,6 +1,7 @@
 -- What the C functions for the time log promise. Definitions only.
 use Rattle.std.specs.Prelude.{ℕ, ◌≡◌, refl, cond, List, ltb, ℤ, length}
-use denote.Ref.{MutBor, at_last}
+use denote.Bor.{Bor}
+use denote.MutBor.{MutBor, at_last}
 use contract.Lifetimes.{Lfts}
 use Rattle.time_log.specs.Layout.{marks_set, record_length}
 use Rattle.time_log.specs.declared.Fields.{Fields}
@@ -21,29 +22,29 @@ use Rattle.terminal.specs.contracts.logs.lachsbrille_log_read as log-c
 -- caller, and no clause can be left out.
 
 -- what the contract of `lachsbrille_log_optional_fields` says
-abbrev pub fields_says : Says fields-c.ended (λ M. fields-c.clauses)
+abbrev pub fields_says : Says fields-c.ended (λ M 𝓤 𝓛. fields-c.clauses 𝓛)
 fields_says = record { Learnt = _; exact = λ w. refl }
 
 -- what the contract of `lachsbrille_log_read_record` says
-abbrev pub record_says : Says record-c.ended (λ M. record-c.clauses)
+abbrev pub record_says : Says record-c.ended (λ M 𝓤 𝓛. record-c.clauses 𝓛)
 record_says = record { Learnt = _; exact = λ w. refl }
 
 -- what the contract of `lachsbrille_log_write_record` says
-abbrev pub written_says : Says written-c.ended (λ M. written-c.clauses)
+abbrev pub written_says : Says written-c.ended (λ M 𝓤 𝓛. written-c.clauses 𝓛)
 written_says = record { Learnt = _; exact = λ w. refl }
 
 -- what the contract of `lachsbrille_log_read` says
-abbrev pub log_says : Says log-c.ended (λ M. log-c.clauses)
+abbrev pub log_says : Says log-c.ended (λ M 𝓤 𝓛. log-c.clauses 𝓛)
 log_says = record { Learnt = _; exact = λ w. refl }
 
 -- for all arguments: layouts, records and logs are read, and records written, as the definitions say, which also give the lent memory
 pub record LogsKept : Type 0 where
   pub fields : (κs : Lfts 0) (layout : ℕ) (r : Marks) → fields_says.Learnt κs (layout, tt) r (layout, tt)
       → (r.number ≡ cond (ltb 511 layout) 47 0) × (r.count ≡ cond (ltb 511 layout) 0 (marks_set layout))
-  pub read : (κs : Lfts 3) (s : MutBor (List ℕ)) (layout logged : ℕ) (os : MutBor (List ℕ)) (vs : MutBor (List ℤ)) (r : Record) (os' : List ℕ) (vs' : List ℤ)
+  pub read : (κs : Lfts 3) (s : Bor (List ℕ)) (layout logged : ℕ) (os : MutBor (List ℕ)) (vs : MutBor (List ℤ)) (r : Record) (os' : List ℕ) (vs' : List ℤ)
       → record_says.Learnt κs (s, (layout, (logged, (os, (vs, tt))))) r (s, (layout, (logged, (at_last os os', (at_last vs vs', tt)))))
       → (r ≡ read_of layout logged s.now (length os.now) (length vs.now)) × (os' ≡ ordinals_after layout logged s.now os.now vs.now) × (vs' ≡ values_after layout logged s.now os.now vs.now)
-  pub written : (κs : Lfts 4) (to : MutBor (List ℕ)) (layout : ℕ) (f : MutBor Fields) (logged : ℕ) (os : MutBor (List ℕ)) (vs : MutBor (List ℤ)) (n : ℕ) (r : Written) (to' : List ℕ)
+  pub written : (κs : Lfts 4) (to : MutBor (List ℕ)) (layout : ℕ) (f : Bor Fields) (logged : ℕ) (os : Bor (List ℕ)) (vs : Bor (List ℤ)) (n : ℕ) (r : Written) (to' : List ℕ)
       → written_says.Learnt κs (to, (layout, (f, (logged, (os, (vs, (n, tt))))))) r (at_last to to', (layout, (f, (logged, (os, (vs, (n, tt)))))))
       → (r ≡ written_as (write_refusal layout f.now logged os.now vs.now n (length to.now)) (record_length layout n)) × (to' ≡ bytes_after to.now layout f.now logged os.now vs.now n)
-  pub log : (κs : Lfts 1) (s : MutBor (List ℕ)) (layout logged : ℕ) (r : Log) → log_says.Learnt κs (s, (layout, (logged, tt))) r (s, (layout, (logged, tt))) → r ≡ log_of layout logged s.now
+  pub log : (κs : Lfts 1) (s : Bor (List ℕ)) (layout logged : ℕ) (r : Log) → log_says.Learnt κs (s, (layout, (logged, tt))) r (s, (layout, (logged, tt))) → r ≡ log_of layout logged s.now

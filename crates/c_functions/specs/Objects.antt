@@ -21,31 +21,31 @@ use Rattle.terminal.specs.contracts.objects.lachsbrille_read_presentation as pre
 -- caller, and no clause can be left out.
 
 -- what the contract of `lachsbrille_version` says
-abbrev pub version_says : Says version-c.ended (λ M. version-c.clauses)
+abbrev pub version_says : Says version-c.ended (λ M 𝓤 𝓛. version-c.clauses 𝓛)
 version_says = record { Learnt = _; exact = λ w. refl }
 
 -- what the contract of `lachsbrille_read_device` says
-abbrev pub device_says : Says device-c.ended (λ M. device-c.clauses)
+abbrev pub device_says : Says device-c.ended (λ M 𝓤 𝓛. device-c.clauses 𝓛)
 device_says = record { Learnt = _; exact = λ w. refl }
 
 -- what the contract of `lachsbrille_read_element` says
-abbrev pub element_says : Says element-c.ended (λ M. element-c.clauses)
+abbrev pub element_says : Says element-c.ended (λ M 𝓤 𝓛. element-c.clauses 𝓛)
 element_says = record { Learnt = _; exact = λ w. refl }
 
 -- what the contract of `lachsbrille_read_entry` says
-abbrev pub entry_says : Says entry-c.ended (λ M. entry-c.clauses)
+abbrev pub entry_says : Says entry-c.ended (λ M 𝓤 𝓛. entry-c.clauses 𝓛)
 entry_says = record { Learnt = _; exact = λ w. refl }
 
 -- what the contract of `lachsbrille_read_process_data` says
-abbrev pub data_says : Says data-c.ended (λ M. data-c.clauses)
+abbrev pub data_says : Says data-c.ended (λ M 𝓤 𝓛. data-c.clauses 𝓛)
 data_says = record { Learnt = _; exact = λ w. refl }
 
 -- what the contract of `lachsbrille_read_property` says
-abbrev pub property_says : Says property-c.ended (λ M. property-c.clauses)
+abbrev pub property_says : Says property-c.ended (λ M 𝓤 𝓛. property-c.clauses 𝓛)
 property_says = record { Learnt = _; exact = λ w. refl }
 
 -- what the contract of `lachsbrille_read_presentation` says
-abbrev pub presentation_says : Says presentation-c.ended (λ M. presentation-c.clauses)
+abbrev pub presentation_says : Says presentation-c.ended (λ M 𝓤 𝓛. presentation-c.clauses 𝓛)
 presentation_says = record { Learnt = _; exact = λ w. refl }
 
 -- for all arguments: the release, and the fields of a record from any start

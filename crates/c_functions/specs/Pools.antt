@@ -1,6 +1,7 @@
 -- What the C functions over a pool promise: read, check, one text examined, texts, labels, a command judged. Definitions only.
 use Rattle.std.specs.Prelude.{ℕ, ◌≤◌, ◌<◌, ◌≡◌, refl, Bool, true, ◌↔◌, List, ℤ, length}
-use denote.Ref.{MutBor, at_last}
+use denote.Bor.{Bor}
+use denote.MutBor.{MutBor, at_last}
 use contract.Lifetimes.{Lfts}
 use Rattle.division.specs.Division.{Division}
 use Rattle.pool.specs.Answer.{answer}
@@ -26,27 +27,27 @@ use Rattle.terminal.specs.contracts.exchange.lachsbrille_judge as judge-c
 -- caller, and no clause can be left out.
 
 -- what the contract of `lachsbrille_read` says
-abbrev pub read_says : Says read-c.ended (λ M. read-c.clauses)
+abbrev pub read_says : Says read-c.ended (λ M 𝓤 𝓛. read-c.clauses 𝓛)
 read_says = record { Learnt = _; exact = λ w. refl }
 
 -- what the contract of `lachsbrille_check` says
-abbrev pub check_says : Says check-c.ended (λ M. check-c.clauses)
+abbrev pub check_says : Says check-c.ended (λ M 𝓤 𝓛. check-c.clauses 𝓛)
 check_says = record { Learnt = _; exact = λ w. refl }
 
 -- what the contract of `lachsbrille_text_is_sound` says
-abbrev pub sound_says : Says sound-c.ended (λ M. sound-c.clauses)
+abbrev pub sound_says : Says sound-c.ended (λ M 𝓤 𝓛. sound-c.clauses 𝓛)
 sound_says = record { Learnt = _; exact = λ w. refl }
 
 -- what the contract of `lachsbrille_text` says
-abbrev pub text_says : Says text-c.ended (λ M. text-c.clauses)
+abbrev pub text_says : Says text-c.ended (λ M 𝓤 𝓛. text-c.clauses 𝓛)
 text_says = record { Learnt = _; exact = λ w. refl }
 
 -- what the contract of `lachsbrille_labels` says
-abbrev pub labels_says : Says labels-c.ended (λ M. labels-c.clauses)
+abbrev pub labels_says : Says labels-c.ended (λ M 𝓤 𝓛. labels-c.clauses 𝓛)
 labels_says = record { Learnt = _; exact = λ w. refl }
 
 -- what the contract of `lachsbrille_judge` says
-abbrev pub judge_says : Says judge-c.ended (λ M. judge-c.clauses)
+abbrev pub judge_says : Says judge-c.ended (λ M 𝓤 𝓛. judge-c.clauses 𝓛)
 judge_says = record { Learnt = _; exact = λ w. refl }
 
 -- a pool read: number and value are reading's answer; `Reads` says what the answer means, by the division alone
@@ -71,16 +72,16 @@ pub record JudgedInto (p : List ℕ) (before : List Record) (command element ddi
 
 -- for all arguments: a pool is read, checked and queried and a command judged as the definitions say, which also give the lent memory
 pub record PoolsAnswered : Type 0 where
-  pub read : (κs : Lfts 3) (p : MutBor (List ℕ)) (t : MutBor (List Record)) (v : MutBor ℕ) (r : ℕ) (t' : List Record) (v' : ℕ)
+  pub read : (κs : Lfts 3) (p : Bor (List ℕ)) (t : MutBor (List Record)) (v : MutBor ℕ) (r : ℕ) (t' : List Record) (v' : ℕ)
       → read_says.Learnt κs (p, (t, (v, tt))) r (p, (at_last t t', (at_last v v', tt))) → ReadInto p.now t.now r v' t'
-  pub check : (κs : Lfts 4) (p : MutBor (List ℕ)) (t : MutBor (List Record)) (b : MutBor (List ℕ)) (v : MutBor ℕ) (r : ℕ) (t' : List Record) (b' : List ℕ) (v' : ℕ)
+  pub check : (κs : Lfts 4) (p : Bor (List ℕ)) (t : MutBor (List Record)) (b : MutBor (List ℕ)) (v : MutBor ℕ) (r : ℕ) (t' : List Record) (b' : List ℕ) (v' : ℕ)
       → check_says.Learnt κs (p, (t, (b, (v, tt)))) r (p, (at_last t t', (at_last b b', (at_last v v', tt)))) → CheckedInto p.now t.now b.now r v' t' b'
-  pub sound : (κs : Lfts 1) (s : MutBor (List ℕ)) (r : Bool) → sound_says.Learnt κs (s, tt) r (s, tt) → (r ≡ true) ↔ Sound s.now
-  pub text : (κs : Lfts 4) (p : MutBor (List ℕ)) (t : MutBor (List Record)) (id : ℕ) (from to : MutBor ℕ) (r : ℕ) (t' : List Record) (from' to' : ℕ)
+  pub sound : (κs : Lfts 1) (s : Bor (List ℕ)) (r : Bool) → sound_says.Learnt κs (s, tt) r (s, tt) → (r ≡ true) ↔ Sound s.now
+  pub text : (κs : Lfts 4) (p : Bor (List ℕ)) (t : MutBor (List Record)) (id : ℕ) (from to : MutBor ℕ) (r : ℕ) (t' : List Record) (from' to' : ℕ)
       → text_says.Learnt κs (p, (t, (id, (from, (to, tt))))) r (p, (at_last t t', (id, (at_last from from', (at_last to to', tt)))))
       → Gives p.now (length t.now) id r from' to' × Filled p.now t.now t'
-  pub labels : (κs : Lfts 2) (p : MutBor (List ℕ)) (t : MutBor (List Record)) (r : DeviceLabels) (t' : List Record)
+  pub labels : (κs : Lfts 2) (p : Bor (List ℕ)) (t : MutBor (List Record)) (r : DeviceLabels) (t' : List Record)
       → labels_says.Learnt κs (p, (t, tt)) r (p, (at_last t t', tt)) → Labelled p.now (length t.now) r × Filled p.now t.now t'
-  pub judge : (κs : Lfts 3) (p : MutBor (List ℕ)) (t : MutBor (List Record)) (command element ddi : ℕ) (value : ℤ) (e : MutBor ℕ) (r : ℕ) (t' : List Record) (e' : ℕ)
+  pub judge : (κs : Lfts 3) (p : Bor (List ℕ)) (t : MutBor (List Record)) (command element ddi : ℕ) (value : ℤ) (e : MutBor ℕ) (r : ℕ) (t' : List Record) (e' : ℕ)
       → judge_says.Learnt κs (p, (t, (command, (element, (ddi, (value, (e, tt))))))) r (p, (at_last t t', (command, (element, (ddi, (value, (at_last e e', tt)))))))
       → JudgedInto p.now t.now command element ddi value r e' t'

@@ -2,7 +2,8 @@
 use mathlib.Core.Path.{◌≡◌, refl, ap}
 use mathlib.Core.List.{List, []}
 use Prim.Native.Nat.{ℕ}
-use denote.Ref.{Bor}
+use denote.Bor.{Bor}
+use denote.MutBor.{MutBor}
 use lib.ListN.{length}
 use Rattle.session.specs.Calls as S
 use Rattle.activation.specs.Activating as Act
@@ -37,11 +38,14 @@ given t = record { session = t.session; place = t.reply.place; number = t.reply.
 ref : {A : Type 0} → List A → Bor (List A)
 ref l = record { ref_ptr = (0, 0); now = l }
 
+mut : {A : Type 0} → List A → MutBor (List A)
+mut l = record { ref_ptr = (0, 0); ghost_name = 0; now = l }
+
 one : (c : Call) (s : Session) (st k : List ℕ) → One in_c s st k c
-unfolding ref given
+unfolding ref mut given
 one (offer n) s st k = record { step = _; staging = st; area = k; table = []; does = does_offer ([], ([], tt)) s n (ref st) (ref k) (given (S.offer_of s n (length st) (length k))) tt refl }
-one (transfer p) s st k = record { step = _; staging = _; area = k; table = []; does = does_transfer ([], ([], tt)) s (ref p) (ref st) k (given (S.transfer_of s p (length st))) (S.staging_after s p st) tt (refl, refl) }
-one (activate t) s st k = record { step = _; staging = st; area = _; table = _; does = does_activate ([], ([], ([], tt))) s (ref st) (ref k) (ref t) (given (Act.activate_of s st (length k) (length t))) (Act.kept_after s st k (length t)) (Act.records_activated s st (length k) t) (refl, refl, refl) }
+one (transfer p) s st k = record { step = _; staging = _; area = k; table = []; does = does_transfer ([], ([], tt)) s (ref p) (mut st) k (given (S.transfer_of s p (length st))) (S.staging_after s p st) tt (refl, refl) }
+one (activate t) s st k = record { step = _; staging = st; area = _; table = _; does = does_activate ([], ([], ([], tt))) s (ref st) (mut k) (mut t) (given (Act.activate_of s st (length k) (length t))) (Act.kept_after s st k (length t)) (Act.records_activated s st (length k) t) (refl, refl, refl) }
 one deactivate s st k = record { step = _; staging = st; area = k; table = []; does = does_deactivate tt s st k (given (S.deactivate_of s)) tt refl }
 one delete s st k = record { step = _; staging = st; area = k; table = []; does = does_delete tt s st k (given (S.delete_of s)) tt refl }
 one lost s st k = record { step = _; staging = st; area = k; table = []; does = does_lost tt s st k (given (S.lost_of s)) tt refl }

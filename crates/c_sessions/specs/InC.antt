@@ -1,58 +1,77 @@
 -- The session calls of C, from `lachsbrille_session_new` on: what the contracts of the exported functions allow. As for the functions
--- of Rattle, `Asked` and `Learnt` are the prover's own readings of these contracts. Definitions only.
+-- of Rattle, `Asked` and `Learnt` are read off these contracts' own text. Definitions only.
 use Rattle.std.specs.Prelude.{◌≡◌, refl, List, [], ℕ}
-use denote.Ref.{MutBor, at_last}
+use denote.Bor.{Bor}
+use denote.MutBor.{MutBor, at_last}
 use contract.Lifetimes.{Lfts}
 use Rattle.faults.specs.Faults.{fault_entry}
 use Rattle.session.specs.declared.Session.{Session}
 use Rattle.c_answers.specs.declared.StepFields.{StepFields}
-use Rattle.terminal.proofs.sessions.lachsbrille_session_new.Reads as new-reads
-use Rattle.terminal.proofs.sessions.lachsbrille_session_offer.Reads as offer-reads
-use Rattle.terminal.proofs.sessions.lachsbrille_session_transfer.Reads as transfer-reads
+use Rattle.terminal.specs.contracts.sessions.lachsbrille_session_new as new-contract
+use Rattle.terminal.specs.contracts.sessions.lachsbrille_session_offer as offer-contract
+use Rattle.terminal.specs.contracts.sessions.lachsbrille_session_transfer as transfer-contract
 use Rattle.terminal.specs.contracts.sessions.lachsbrille_session_activate as activate-contract
-use Rattle.terminal.proofs.sessions.lachsbrille_session_deactivate.Reads as deactivate-reads
-use Rattle.terminal.proofs.sessions.lachsbrille_session_delete.Reads as delete-reads
-use Rattle.terminal.proofs.sessions.lachsbrille_session_lost.Reads as lost-reads
+use Rattle.terminal.specs.contracts.sessions.lachsbrille_session_deactivate as deactivate-contract
+use Rattle.terminal.specs.contracts.sessions.lachsbrille_session_delete as delete-contract
+use Rattle.terminal.specs.contracts.sessions.lachsbrille_session_lost as lost-contract
 use Rattle.working_table.specs.declared.Record.{Record}
-use Rattle.book.specs.Says.{Says}
+use Rattle.book.specs.Says.{Says, Reading, Asked, nothing}
 use Rattle.book.specs.Book.{Said, Call, offer, transfer, activate, deactivate, delete, lost}
 use Rattle.book.specs.Run.{Functions}
 
--- what activating promises. The prover has no such reading for it, since it takes a slice of records: so this is the contract's own
--- text, and `refl` checks that it is the whole contract. It asks nothing of its caller
-abbrev pub activate_says : Says activate-contract.ended (λ M. activate-contract.clauses)
+-- what activating promises: the contract's own text, and `refl` checks that it is the whole contract. It asks nothing of its caller
+abbrev pub activate_says : Says activate-contract.ended (λ M 𝓤 𝓛. activate-contract.clauses 𝓛)
 activate_says = record { Learnt = _; exact = λ w. refl }
+
+-- what each of the other functions asks of its caller and promises: the contract's own text, likewise
+abbrev pub new_reads : Reading new-contract.ended (λ M 𝓤 𝓛. new-contract.clauses 𝓛)
+new_reads = record { asks = λ κs a. nothing; Learnt = _; exact = λ w. refl }
+
+abbrev pub offer_reads : Reading offer-contract.ended (λ M 𝓤 𝓛. offer-contract.clauses 𝓛)
+offer_reads = record { asks = λ κs a. nothing; Learnt = _; exact = λ w. refl }
+
+abbrev pub transfer_reads : Reading transfer-contract.ended (λ M 𝓤 𝓛. transfer-contract.clauses 𝓛)
+transfer_reads = record { asks = λ κs a. nothing; Learnt = _; exact = λ w. refl }
+
+abbrev pub deactivate_reads : Reading deactivate-contract.ended (λ M 𝓤 𝓛. deactivate-contract.clauses 𝓛)
+deactivate_reads = record { asks = λ κs a. nothing; Learnt = _; exact = λ w. refl }
+
+abbrev pub delete_reads : Reading delete-contract.ended (λ M 𝓤 𝓛. delete-contract.clauses 𝓛)
+delete_reads = record { asks = λ κs a. nothing; Learnt = _; exact = λ w. refl }
+
+abbrev pub lost_reads : Reading lost-contract.ended (λ M 𝓤 𝓛. lost-contract.clauses 𝓛)
+lost_reads = record { asks = λ κs a. nothing; Learnt = _; exact = λ w. refl }
 
 -- one call, from a session value, staging and the kept area: the step that it returns, and the areas and the table afterwards
 pub data Does : Session → List ℕ → List ℕ → Call → StepFields → List ℕ → List ℕ → List Record → Type 0 where
-  does_offer : (κs : Lfts 2) (s : Session) (n : ℕ) (st k : MutBor (List ℕ)) (r : StepFields)
-      → offer-reads.Asked κs (s, (n, (st, (k, tt)))) → offer-reads.Learnt κs (s, (n, (st, (k, tt)))) r (s, (n, (st, (k, tt))))
+  does_offer : (κs : Lfts 2) (s : Session) (n : ℕ) (st k : Bor (List ℕ)) (r : StepFields)
+      → Asked offer_reads κs (s, (n, (st, (k, tt)))) → offer_reads.Learnt κs (s, (n, (st, (k, tt)))) r (s, (n, (st, (k, tt))))
       → Does s st.now k.now (offer n) r st.now k.now []
-  does_transfer : (κs : Lfts 2) (s : Session) (p st : MutBor (List ℕ)) (k : List ℕ) (r : StepFields) (st' : List ℕ)
-      → transfer-reads.Asked κs (s, (p, (st, tt))) → transfer-reads.Learnt κs (s, (p, (st, tt))) r (s, (p, (at_last st st', tt)))
+  does_transfer : (κs : Lfts 2) (s : Session) (p : Bor (List ℕ)) (st : MutBor (List ℕ)) (k : List ℕ) (r : StepFields) (st' : List ℕ)
+      → Asked transfer_reads κs (s, (p, (st, tt))) → transfer_reads.Learnt κs (s, (p, (st, tt))) r (s, (p, (at_last st st', tt)))
       → Does s st.now k (transfer p.now) r st' k []
-  does_activate : (κs : Lfts 3) (s : Session) (st k : MutBor (List ℕ)) (t : MutBor (List Record)) (r : StepFields) (k' : List ℕ) (t' : List Record)
+  does_activate : (κs : Lfts 3) (s : Session) (st : Bor (List ℕ)) (k : MutBor (List ℕ)) (t : MutBor (List Record)) (r : StepFields) (k' : List ℕ) (t' : List Record)
       → activate_says.Learnt κs (s, (st, (k, (t, tt)))) r (s, (st, (at_last k k', (at_last t t', tt))))
       → Does s st.now k.now (activate t.now) r st.now k' t'
   does_deactivate : (κs : Lfts 0) (s : Session) (st k : List ℕ) (r : StepFields)
-      → deactivate-reads.Asked κs (s, tt) → deactivate-reads.Learnt κs (s, tt) r (s, tt) → Does s st k deactivate r st k []
+      → Asked deactivate_reads κs (s, tt) → deactivate_reads.Learnt κs (s, tt) r (s, tt) → Does s st k deactivate r st k []
   does_delete : (κs : Lfts 0) (s : Session) (st k : List ℕ) (r : StepFields)
-      → delete-reads.Asked κs (s, tt) → delete-reads.Learnt κs (s, tt) r (s, tt) → Does s st k delete r st k []
+      → Asked delete_reads κs (s, tt) → delete_reads.Learnt κs (s, tt) r (s, tt) → Does s st k delete r st k []
   does_lost : (κs : Lfts 0) (s : Session) (st k : List ℕ) (r : StepFields)
-      → lost-reads.Asked κs (s, tt) → lost-reads.Learnt κs (s, tt) r (s, tt) → Does s st k lost r st k []
+      → Asked lost_reads κs (s, tt) → lost_reads.Learnt κs (s, tt) r (s, tt) → Does s st k lost r st k []
 
 -- a new session, as `lachsbrille_session_new` gives it
 pub data New : Session → Type 0 where
-  is_new : (κs : Lfts 0) (s : Session) → new-reads.Asked κs tt → new-reads.Learnt κs tt s tt → New s
+  is_new : (κs : Lfts 0) (s : Session) → Asked new_reads κs tt → new_reads.Learnt κs tt s tt → New s
 
 -- no call asks anything of its caller; for activating, this is part of `activate_says`
 pub record Free : Type 0 where
-  pub of_new : (κs : Lfts 0) → new-reads.Asked κs tt
-  pub of_offer : (κs : Lfts 2) (s : Session) (n : ℕ) (st k : MutBor (List ℕ)) → offer-reads.Asked κs (s, (n, (st, (k, tt))))
-  pub of_transfer : (κs : Lfts 2) (s : Session) (p st : MutBor (List ℕ)) → transfer-reads.Asked κs (s, (p, (st, tt)))
-  pub of_deactivate : (κs : Lfts 0) (s : Session) → deactivate-reads.Asked κs (s, tt)
-  pub of_delete : (κs : Lfts 0) (s : Session) → delete-reads.Asked κs (s, tt)
-  pub of_lost : (κs : Lfts 0) (s : Session) → lost-reads.Asked κs (s, tt)
+  pub of_new : (κs : Lfts 0) → Asked new_reads κs tt
+  pub of_offer : (κs : Lfts 2) (s : Session) (n : ℕ) (st k : Bor (List ℕ)) → Asked offer_reads κs (s, (n, (st, (k, tt))))
+  pub of_transfer : (κs : Lfts 2) (s : Session) (p : Bor (List ℕ)) (st : MutBor (List ℕ)) → Asked transfer_reads κs (s, (p, (st, tt)))
+  pub of_deactivate : (κs : Lfts 0) (s : Session) → Asked deactivate_reads κs (s, tt)
+  pub of_delete : (κs : Lfts 0) (s : Session) → Asked delete_reads κs (s, tt)
+  pub of_lost : (κs : Lfts 0) (s : Session) → Asked lost_reads κs (s, tt)
 
 -- what a step tells a client: its own numbers
 abbrev pub told : StepFields → Said

@@ -1,4 +1,4 @@
--- `c_functions::pools_are_answered` meets its contract, which is the claim itself: what each contract says, in the claim's words. Assumes nothing.
+-- `c_functions::pools_are_answered` meets its contract, which is the claim itself: what each contract says, in the claim's words.
 use mathlib.Core.Path.{◌≡◌, sym, ap₂, ◌∙◌}
 use mathlib.Core.List.{List}
 use Prim.Native.Nat.{ℕ, ◌≤◌, ◌<◌}
@@ -12,8 +12,7 @@ use Rattle.claims.proofs.Verdict.{reading}
 use Rattle.claims.proofs.Checking.{checking}
 use Rattle.commands.specs.Tables.{records_judged}
 use Rattle.claims.specs.Reads.{Filled}
-use Rattle.c_functions.proofs.pools_are_answered.Statement.{statement}
-use Rattle.c_functions.proofs.pools_are_answered.Tie as tie
+use Rattle.c_functions.proofs.pools_are_answered.Goals as goal
 
 filled : (p : List ℕ) (table left : List Record) → left ≡ records_after p table → Filled p table left
 filled p table left e = rw e ((reading p (length table)).table table)
@@ -26,7 +25,7 @@ unlooked : (p : List ℕ) (table : List Record) (element : ℕ) → 4095 < eleme
 unfolding records_judged
 unlooked p table element h = rw (lt-ltb 4095 element h)
 
-returns : tie.Need-returns
+pub returns : goal.returns
 returns c =
     record {
       read = λ κs p t v r t' v' h. record { answered = ap₂ answer h.0.number h.0.value; means = reading p.now (length t.now); table = filled p.now t.now t' h.1 };
@@ -46,6 +45,3 @@ returns c =
         stays = λ many. h.2 ∙ unlooked p.now t.now element many;
       };
     }
-
-pub pools-are-answered-spec : {M : Type 1} → statement M
-pools-are-answered-spec = tie.close (tie.spec returns)
