@@ -13,7 +13,7 @@ use Rattle.c_answers.specs.declared.StepFields.{StepFields}
 use Rattle.working_table.specs.declared.Record.{Record}
 use Rattle.book.specs.Book.{Call, offer, transfer, activate, deactivate, delete, lost}
 use Rattle.c_sessions.specs.InC.{in_c, Does, does_offer, does_transfer, does_activate, does_deactivate, does_delete, does_lost, New, is_new}
-use Rattle.book.proofs.Follows.{said_in, told_by, Did, One, Follows}
+use Rattle.book.proofs.Follows.{said_in, Did, One, Follows}
 
 new_is : {s : Session} → New s → s ≡ S.new_session
 new_is (is_new κs s ask post) = post

@@ -1,6 +1,6 @@
 -- The session calls of C, from `lachsbrille_session_new` on: what the contracts of the exported functions allow. As for the functions
 -- of Rattle, `Asked` and `Learnt` are read off these contracts' own text. Definitions only.
-use Rattle.std.specs.Prelude.{◌≡◌, refl, List, [], ℕ}
+use Rattle.std.specs.Prelude.{refl, List, [], ℕ}
 use denote.Bor.{Bor}
 use denote.MutBor.{MutBor, at_last}
 use contract.Lifetimes.{Lfts}

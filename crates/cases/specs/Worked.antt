@@ -1,6 +1,6 @@
 -- A worked session: some twenty calls over two areas of 80 bytes, the answer to each, and what is kept on the way.
 -- Definitions only.
-use Rattle.std.specs.Prelude.{ℕ, ◌≡◌, List, [], ◌∷◌, ◌++◌, take, drop, replicate}
+use Rattle.std.specs.Prelude.{◌≡◌, List, [], ◌∷◌, ◌++◌, take, drop, replicate}
 use Rattle.working_table.specs.declared.Record.{Record}
 use Rattle.working_table.specs.Table.{blank}
 use Rattle.faults.specs.Faults.{fault_entry}

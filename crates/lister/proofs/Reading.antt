@@ -1,13 +1,9 @@
 -- The answers of reads, and how far reading has come. Assumes nothing.
 use mathlib.Core.Path.{◌≡◌, refl, sym, subst}
 use mathlib.Core.Bool.{Bool, true, false, cond, true≢false}
-use mathlib.Core.List.{[], ◌∷◌}
-use mathlib.Core.Logic.{⊎_elim}
 use Prim.Native.Nat.{ℕ, zero, suc, ◌+◌, ◌≤◌, ◌<◌, ◌^◌}
 use native.Mathlib.Omega.{arith}
 use borrow.Author.Tests.{ltb-true, le-leb, lt-leb, leb-true}
-use types.Run.{OneOf}
-use denote.Enum.Declared.{tag_of}
 use lib.Dec.{leb}
 use lib.IntN.{ℤ, pos, negsuc}
 use lib.Signed.{lt_z}
@@ -17,7 +13,6 @@ use mir.ValLaws.{to_z-of_z}
 use Rattle.lister.specs.declared.Input.{Input}
 use Rattle.lister.specs.declared.Input.TheVariants.{More, Ended, Failed}
 use Rattle.lister.specs.Reading.{input_after, Further, Over}
-use Rattle.lister.specs.contracts.Input.{the_type}
 
 -- a negative answer, and one that is not, as the number that the code makes of it
 pub negative : (n : ℕ) (z : ℤ) (room : ℕ) → SFits w64 z → lt_z (to_z w64 (of_z w64 z)) (pos 0) ≡ true → Failed ≡ input_after n z room

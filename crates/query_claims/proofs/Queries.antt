@@ -1,7 +1,7 @@
 -- Texts and labels of an accepted pool are the parts that its records consist of. Assumes nothing.
 use mathlib.Core.Path.{◌≡◌, refl, sym, ap, subst, ◌∙◌}
 use mathlib.Core.Bool.{Bool, true, false, cond, true≢false}
-use mathlib.Core.Logic.{◌↔◌, ⊎_elim, inl, inr}
+use mathlib.Core.Logic.{◌↔◌, ⊎_elim}
 use mathlib.Core.List.Memᴰ
 use mathlib.Core.List.{List, [], ◌∷◌, ◌++◌, append_assoc, append-nil, Memᴰ}
 use Prim.Native.Nat.{ℕ, zero, suc, ◌+◌, ◌-◌, ◌≤◌, ◌<◌}
@@ -9,7 +9,7 @@ use native.Mathlib.Omega.{arith}
 use native.Mathlib.Decide.{ℕ_discrete}
 use borrow.Author.Tests.{ne_eqb}
 use lib.Dec.{eqb}
-use lib.ListN.{length, take, drop, replicate, length-append}
+use lib.ListN.{length, replicate, length-append}
 use Rattle.wire.specs.Parts.{joined}
 use Rattle.wire.specs.Bytes.{le_of}
 use Rattle.records.specs.Layout.{layout, kind_code}
@@ -17,9 +17,7 @@ use Rattle.records.specs.Places.{field_at}
 use Rattle.records.specs.declared.Kind.{Kind}
 use Rattle.records.specs.declared.Kind.TheVariants.{Dvc, Det, Dpd, Dpt, Dvp}
 use Rattle.records.specs.declared.Span.{Span}
-use Rattle.records.specs.declared.Device.{Device}
 use Rattle.views.specs.Fields.{part_of, device_of, element_of, process_data_of, property_of, presentation_of}
-use Rattle.division.specs.Whole.{Whole}
 use Rattle.division.specs.Division.{Division}
 use Rattle.division.specs.Written.{Written, dvc, det, dpd, dpt, dvp}
 use Rattle.text.specs.Examined.{sound_text, Sound}
@@ -33,7 +31,6 @@ use Rattle.rules.specs.Breach.{Is, Text, device_designator, device_version, devi
 use Rattle.rules.specs.Table.{breaches_in, breaches_of}
 use Rattle.rules.proofs.Listing.{breaches-listed}
 use Rattle.checker.specs.Checking.{count_of}
-use Rattle.claims.specs.Reads.{listed}
 use Rattle.claims.specs.Parts.{Shows}
 use Rattle.claims.proofs.Sorting.{listed-length}
 use Rattle.claims.proofs.Parts.{fields-are-parts}
@@ -41,8 +38,8 @@ use Rattle.claims.proofs.Verdict.{reading}
 use Rattle.queries.specs.Queries as Q
 use Rattle.queries.specs.Queries.{acceptance, carrier, text_of_record, text_number, text_span, text_of, padded, if_accepted, labels_number, device_in, start_of, structure_label, localization_label, extended_text, extended_label, extended_count}
 use Rattle.queries.proofs.Accepted.{accepted-read, accepted-clean, some-member}
-use Rattle.query_claims.specs.Texts.{id_in, asked_text, before_text, texts_in, labels_within, Has, None, QueriesAreParts, AcceptedQueries}
-use Rattle.query_claims.proofs.Placed.{id-in, kind-written, written-whole, Placed, placed, Split, split_at, split-of}
+use Rattle.query_claims.specs.Texts.{id_in, asked_text, before_text, texts_in, labels_within, Has, None, AcceptedQueries}
+use Rattle.query_claims.proofs.Placed.{id-in, kind-written, written-whole, Placed, placed, split_at, split-of}
 
 -- ---- one record
 

@@ -16,23 +16,14 @@ pub fn lachsbrille_session_new() -> Session
 }
 
 // Announces the size of a pool. Of the areas only the lengths matter.
-pub fn lachsbrille_session_offer(
-    s: Session,
-    size: usize,
-    staging: &[u8],
-    kept: &[u8],
-) -> StepFields
+pub fn lachsbrille_session_offer(s: Session, size: usize, staging: &[u8], kept: &[u8]) -> StepFields
     ensures { step_in result ≡ offer_of s size (length staging.now) (length kept.now) }
 {
     c_answers::give_step(session::offer(s, size, staging, kept))
 }
 
 // Copies a piece of the pool into staging.
-pub fn lachsbrille_session_transfer(
-    s: Session,
-    piece: &[u8],
-    staging: &mut [u8],
-) -> StepFields
+pub fn lachsbrille_session_transfer(s: Session, piece: &[u8], staging: &mut [u8]) -> StepFields
     ensures { (step_in result ≡ transfer_of s piece.now (length staging.old)) × (staging.new ≡ staging_after s piece.now staging.old) }
 {
     c_answers::give_step(session::transfer(s, piece, staging))

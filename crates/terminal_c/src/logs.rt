@@ -45,7 +45,9 @@ pub extern "C" fn lachsbrille_log_write_record(
 ) -> Written
     ensures { (result ≡ written_as (write_refusal layout fields.now logged ordinals.now values.now count (length to.old)) (record_length layout count)) × (to.new ≡ bytes_after to.old layout fields.now logged ordinals.now values.now count) }
 {
-    terminal::logs::lachsbrille_log_write_record(to, layout, fields, logged, ordinals, values, count)
+    terminal::logs::lachsbrille_log_write_record(
+        to, layout, fields, logged, ordinals, values, count,
+    )
 }
 
 // Reads the records of a log to its end.

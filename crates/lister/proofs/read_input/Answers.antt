@@ -1,8 +1,6 @@
 -- `lister::read_input` meets its contract.
-use mathlib.Core.Path.{◌≡◌, refl}
-use Prim.Native.Nat.{◌-◌, ◌≤◌}
+use mathlib.Core.Path.{refl}
 use native.Mathlib.Omega.{arith}
-use borrow.Author.Rules.{rules}
 use lib.ListN.{length}
 use Rattle.lister.proofs.Reading.{over, more}
 use Rattle.lister.proofs.read_input.Goals as goal

@@ -1,6 +1,5 @@
 -- `lister::read_more` meets its contract.
 use native.Mathlib.Omega.{arith}
-use borrow.Author.Rules.{rules}
 use lib.ListN.{length}
 use Rattle.lister.proofs.Reading.{comes}
 use Rattle.lister.proofs.read_more.Goals as goal

@@ -2,7 +2,6 @@
 use mathlib.Core.Path.{sym}
 use native.Mathlib.Omega.{arith}
 use borrow.Author.Tests.{lt-leb}
-use borrow.Author.Rules.{rules}
 use Rattle.terminal.proofs.display.decimals_in.Goals as goal
 
 pub returns-then-decimals-gt255 : goal.returns-then-decimals-gt255

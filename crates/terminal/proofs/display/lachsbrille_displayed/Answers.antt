@@ -6,9 +6,8 @@ use lib.IntN.{ℤ}
 use lib.Ieee.{Float}
 use mir.Syntax.{w32}
 use mir.ValLaws.{to_z-of_z}
-use Rattle.presentation.specs.Display.{Answer, answer_of, shown_of, Shown}
+use Rattle.presentation.specs.Display.{answer_of, shown_of, Shown}
 use Rattle.terminal.specs.Display.{presented}
-use borrow.Author.Rules.{rules}
 use Rattle.terminal.proofs.display.lachsbrille_displayed.Goals as goal
 
 -- of the decimals it is asked only whether they are in range

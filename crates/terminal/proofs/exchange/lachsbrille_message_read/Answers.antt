@@ -1,6 +1,5 @@
 -- `terminal::exchange::lachsbrille_message_read` meets its contract: it returns what reading returns.
 use mathlib.Core.Path.{◌∙◌}
-use borrow.Author.Rules.{rules}
 use Rattle.terminal.proofs.exchange.lachsbrille_message_read.Goals as goal
 
 pub returns : goal.returns

@@ -2,7 +2,6 @@
 use mathlib.Core.Path.{◌∙◌}
 use mir.Syntax.{w32}
 use mir.ValLaws.{to_z-of_z}
-use borrow.Author.Rules.{rules}
 use Rattle.terminal.proofs.exchange.lachsbrille_message_write_value.Goals as goal
 
 pub returns : goal.returns

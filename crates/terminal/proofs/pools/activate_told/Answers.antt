@@ -1,7 +1,6 @@
 -- `terminal::pools::activate_told` meets its contract: it returns the step of activating as numbers.
 use mathlib.Core.Path.{ap, ◌∙◌}
 use Rattle.session.specs.Calls.{step_of}
-use borrow.Author.Rules.{rules}
 use Rattle.terminal.proofs.pools.activate_told.Goals as goal
 
 pub returns : goal.returns

@@ -1,5 +1,5 @@
 -- `terminal::pools::check_long`: the list that is left gives the table after the call.
-use Rattle.std.proofs.Common.{◌≡◌, ℕ, ◌∙◌, ap, sym, subst, length}
+use Rattle.std.proofs.Common.{ℕ, ◌∙◌, ap, sym, subst, length}
 use Rattle.checker.specs.Checking.{check_of}
 use Rattle.c_answers.specs.Numbers.{Says}
 use Rattle.checker.proofs.Tables.{check-gathers}

@@ -1,7 +1,6 @@
 -- `terminal::pools::check_told` meets its contract.
 use mathlib.Core.Path.{ap, ◌∙◌}
 use Rattle.pool.specs.Answer.{Answer}
-use borrow.Author.Rules.{rules}
 use Rattle.terminal.proofs.pools.check_told.Goals as goal
 
 pub returns : goal.returns

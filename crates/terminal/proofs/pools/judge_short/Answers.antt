@@ -1,5 +1,5 @@
 -- `terminal::pools::judge_short`: the list that is left gives the table after the call.
-use Rattle.std.proofs.Common.{◌≡◌, ℕ, ◌∙◌, ap, sym, subst, length}
+use Rattle.std.proofs.Common.{ℕ, ◌∙◌, ap}
 use mir.Syntax.{w32}
 use mir.ValLaws.{to_z-of_z}
 use Rattle.commands.proofs.Tables.{judged-gathers}

@@ -1,7 +1,6 @@
 -- `terminal::pools::judge_told` meets its contract.
 use mir.Syntax.{w32}
 use mir.ValLaws.{to_z-of_z}
-use borrow.Author.Rules.{rules}
 use Rattle.terminal.proofs.pools.judge_told.Goals as goal
 
 pub returns : goal.returns

@@ -2,7 +2,6 @@
 use mathlib.Core.Path.{ap, ◌∙◌}
 use Rattle.pool.specs.Answer.{Answer}
 use Rattle.checker.proofs.Tables.{read-counts}
-use borrow.Author.Rules.{rules}
 use Rattle.terminal.proofs.pools.read_told.Goals as goal
 
 pub returns : goal.returns

@@ -1,5 +1,5 @@
 -- `terminal::pools::text_long`: the list that is left gives the table after the call.
-use Rattle.std.proofs.Common.{◌≡◌, ℕ, ◌∙◌, ap, sym, subst, length}
+use Rattle.std.proofs.Common.{ℕ, ◌∙◌, ap, sym, subst, length}
 use Rattle.terminal.specs.Texts.{Gives}
 use Rattle.checker.proofs.Tables.{check-gathers}
 use Rattle.working_table.specs.Rows.{gathered}

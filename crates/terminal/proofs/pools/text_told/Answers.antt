@@ -2,7 +2,6 @@
 use mathlib.Core.Path.{ap, ◌∙◌}
 use native.Mathlib.Omega.{arith}
 use Rattle.queries.specs.declared.Place.{Place}
-use borrow.Author.Rules.{rules}
 use Rattle.terminal.proofs.pools.text_told.Goals as goal
 
 pub returns : goal.returns

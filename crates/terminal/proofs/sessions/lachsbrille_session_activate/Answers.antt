@@ -1,5 +1,5 @@
 -- `terminal::sessions::lachsbrille_session_activate`: the list that activating leaves gives the table of the pool that was checked, if one was.
-use Rattle.std.proofs.Common.{◌≡◌, ℕ, ◌∙◌, ap, length}
+use Rattle.std.proofs.Common.{ℕ, ◌∙◌, ap, length}
 use Rattle.c_answers.specs.Steps.{step_in}
 use Rattle.working_table.specs.Rows.{gathered}
 use Rattle.activation.proofs.Filled.{records-filled}
