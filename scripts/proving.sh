@@ -91,12 +91,12 @@ end_provers() { # STATUS
 
 # Proves some crates, each below those after it: what is said of one stands in target/log/CRATE.out.
 prove_each() { # CRATE...
-    for crate in "$@"; do prove_one "$crate" check; done
+    for crate in "$@"; do prove_one "$crate" check || return; done
 }
 
 # Has rt prove one crate, and make of it what a command of rt makes.
 prove_one() { # CRATE COMMAND WORDS...
-    if rt "$2" "$1" "${@:3}" </dev/null >"target/log/$1.out" 2>&1; then
+    if (cd "crates/$1" && rt "${@:2}") </dev/null >"target/log/$1.out" 2>&1; then
         echo "rt: $1 proved" | tee -a "target/log/$1.out"
     else
         echo "rt: $1 NOT PROVED" >>"target/log/$1.out"
