@@ -76,7 +76,8 @@ fn mark_left(ups: &[u16], count: usize, marks: &mut [u8])
 {
     let mut i: usize = 0;
     while i < count {
-        if ups[i + 1] != 0 {
+        let left = ups[i + 1] != 0;
+        if left {
             marks::mark(marks, i);
         }
         i += 1;

@@ -67,7 +67,8 @@ pub fn put_element(
     let number = (i + 1) as u16;
     let bad = field_rules::is_bad_id(2, records::view::id(p, at));
     let twice = naming::repeats_id(p, starts, heads, next, i);
-    if (bad | twice) | (again | endless) {
+    let faulty = (bad | twice) | (again | endless);
+    if faulty {
         return element::put_faults(
             p, starts, heads, next, i, e, parent, bad, twice, again, endless, faults, n,
         );

@@ -108,6 +108,9 @@ fn width_at(s: &[u8], i: usize) -> usize
     )
 }
 
+// A text has at most this many characters.
+const MOST: usize = 32;
+
 // Whether a text consists of whole characters, at most 32. It stops at the first malformed character or at the 33rd one.
 fn is_few(s: &[u8]) -> bool
     ensures { result ≡ few (characters_in 0 s.now) }
@@ -115,7 +118,7 @@ fn is_few(s: &[u8]) -> bool
     let mut n = 0usize;
     let mut i = 0usize;
     while i < s.len() {
-        if n == 32 {
+        if n == MOST {
             return false;
         }
         let w = width_at(s, i);

@@ -36,8 +36,8 @@ put_faults-requires c =
     let l : suc a.i < length starts = omega (arith, c.requires.1) in
     (c.requires.0, c.requires.1, c.requires.2, c.requires.3, c.requires.4, c.is_bad_id-bad.ensures ∙ ap (bad_own 2) (c.id.ensures ∙ sym (id-read p starts a.i l)), c.repeats_id-twice.ensures, c.requires.6, c.requires.7, c.requires.9)
 
-pub returns-then-bad-twice : goal.returns-then-bad-twice
-returns-then-bad-twice c = c.put_faults.ensures
+pub returns-then-faulty : goal.returns-then-faulty
+returns-then-faulty c = c.put_faults.ensures
 
 pub is_clear_element-requires : goal.is_clear_element-requires
 is_clear_element-requires c =
@@ -54,7 +54,7 @@ returns-then-is_clear_element c =
     let es = entries_of p starts in
     let l : suc a.i < length starts = omega (arith, c.requires.1) in
     let seen = c.is_clear_element.ensures c.if-is_clear_element.true in
-    let none = clear_both (c.is_bad_id-bad.result || c.repeats_id-twice.result) (a.again || a.endless) c.if-bad-twice.false in
+    let none = clear_both (c.is_bad_id-bad.result || c.repeats_id-twice.result) (a.again || a.endless) c.if-faulty.false in
     let rest = clear_both a.again a.endless none.1 in (
       puts-clear (record-clear p es a.i 2 (sym c.requires.2) c.is_bad_id-bad.result c.repeats_id-twice.result (c.is_bad_id-bad.ensures ∙ ap (bad_own 2) (c.id.ensures ∙ sym (id-read p starts a.i l))) c.repeats_id-twice.ensures none.0
           (element-looked p es a.i (get_or starts a.i 0) 2 (start-read p starts a.i l) refl a.e c.requires.3 a.parent c.requires.4 a.again a.endless c.requires.6 c.requires.7 seen.0 (ap is_parent_kind (sym c.requires.5) ∙ seen.1) rest.0 rest.1 seen.2)),

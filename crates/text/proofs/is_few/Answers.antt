@@ -13,11 +13,11 @@ use Rattle.text.proofs.is_few.Goals as goal
 pub loop-i-init : goal.loop-i-init
 loop-i-init c = (omega arith, omega arith, none (characters_in 0 c.args.s.now))
 
-pub returns-then-n-eq32 : goal.returns-then-n-eq32
-returns-then-n-eq32 c =
+pub returns-then-n-eq-MOST : goal.returns-then-n-eq-MOST
+returns-then-n-eq-MOST c =
     let s = c.args.s.now in
     let l = c.loop-i in
-    sym (few-at-most s l.i l.n c.loop-i-test.true c.if-n-eq32.true) ∙ ap few l.invariant.2
+    sym (few-at-most s l.i l.n c.loop-i-test.true c.if-n-eq-MOST.true) ∙ ap few l.invariant.2
 
 pub returns-then-w-eq0 : goal.returns-then-w-eq0
 returns-then-w-eq0 c =
@@ -31,7 +31,7 @@ loop-i-preserved c =
     let l = c.loop-i in
     let e = c.width_at-w.ensures.0 in
     let w : (width_at s l.i ≡ 0 → ⊥) = λ (z : width_at s l.i ≡ 0). c.if-w-eq0.false (e ∙ z) in
-    (omega arith, omega (arith, c.if-n-eq32.false), rw e (sym (regroup l.n (characters_in 0 (drop (l.i + width_at s l.i) s))) ∙ ap (plus l.n) (sym (good s l.i c.loop-i-test.true w)) ∙ l.invariant.2))
+    (omega arith, omega (arith, c.if-n-eq-MOST.false), rw e (sym (regroup l.n (characters_in 0 (drop (l.i + width_at s l.i) s))) ∙ ap (plus l.n) (sym (good s l.i c.loop-i-test.true w)) ∙ l.invariant.2))
 
 pub returns : goal.returns
 unfolding characters_in
