@@ -16,11 +16,10 @@ need() {
     command -v "$1" >/dev/null 2>&1 || fail "$1 is not on the PATH: $2" 2
 }
 
-# Sets `kit` to the kit's folder, and `tools` to the folder in it that has the compiler for this machine.
+# Sets `kit` to the kit's folder.
 find_kit() {
     need rt 'the Rattle kit is needed'
-    kit=${RATTLE_HOME:-$(dirname "$(dirname "$(readlink -f "$(command -v rt)")")")}
-    tools=on/$(uname -m)/toolchain
+    kit=$(dirname "$(dirname "$(readlink -f "$(command -v rt)")")")
 }
 
 # Prints some crates and all that they depend on, one per line.
@@ -33,7 +32,7 @@ rests_on() { # CRATE...
             print crate
         }
         { sub(/#.*/, "") }
-        NF { named[$1] = $2 }
+        NF { split($1, words, " "); named[words[1]] = $2 }
         END {
             count = split(wanted, crates, " ")
             for (i = 1; i <= count; i++) visit(crates[i])
@@ -90,8 +89,24 @@ end_provers() { # STATUS
     exit "$1"
 }
 
-# Shows, once a second, how many crates are proved, which are being proved, and the time so far. `rt check` writes its output on a crate
-# to target/log/CRATE.out, which is there as soon as it begins; `rt staticlib` has no such file for its own crate, which is the last.
+# Proves some crates, each below those after it: what is said of one stands in target/log/CRATE.out.
+prove_each() { # CRATE...
+    for crate in "$@"; do prove_one "$crate" check || return; done
+}
+
+# Has rt prove one crate, and make of it what a command of rt makes.
+prove_one() { # CRATE COMMAND WORDS...
+    if (cd "crates/$1" && rt "${@:2}") </dev/null >"target/log/$1.out" 2>&1; then
+        echo "rt: $1 proved" | tee -a "target/log/$1.out"
+    else
+        echo "rt: $1 NOT PROVED" >>"target/log/$1.out"
+        tail -n 20 "target/log/$1.out"
+        echo "rt: FAILED: $1"
+        return 1
+    fi
+}
+
+# Shows, once a second, how many crates are proved, which is being proved, and the time so far.
 show_progress() {
     [ $((SECONDS - began)) -ne "$shown" ] || return 0
     shown=$((SECONDS - began)) count=0 ended=0 now=
@@ -114,7 +129,7 @@ sources_of() { # CRATE
     # shellcheck disable=SC2046 # the names of crates are words
     {
         cat "$kit/KIT-ID" crates.txt
-        find $(rests_on "$1" | sed 's|^|crates/|') -name must-fail -prune -o -type f -print0 | sort -z | xargs -0 sha256sum
+        find $(rests_on "$1" | sed 's|^|crates/|') \( -name must-fail -o -name out \) -prune -o -type f -print0 | sort -z | xargs -0 sha256sum
     } | sha256sum
 }
 
@@ -134,52 +149,85 @@ now_up_to_date() { # FILE...
 build_lister() {
     find_kit
     up_to_date target/lister.made-from lister target/bin/lister && return
-    prove 'the lister' target/lister.log "$(rests_on lister)" rt check lister
+    prove 'the lister' target/lister.log "$(rests_on lister)" make_lister
     now_up_to_date target/bin/lister
 }
 
-# Leaves the library for x86-64 in the file `library`, and in `module` the LLVM bitcode that it was compiled from, which can be compiled
-# for other machines too. It is proved anew if one of them or a source has changed.
+# rt makes a program by running it: here on no input.
+make_lister() {
+    # shellcheck disable=SC2046 # the names of crates are words
+    prove_each $(rests_on lister | grep -vx lister) || return
+    prove_one lister run || return
+    install -D crates/lister/out/lister target/bin/lister
+}
+
+# Leaves the library for this machine's kind in the file `library`. It is proved anew if it or a source has changed.
 build_library() {
     find_kit
-    library=target/staticlib/libterminal.a module=target/module/terminal.bc
-    up_to_date target/library.made-from terminal "$library" "$module" && return
-    prove 'the library' target/library.log "$(rests_on terminal)" compile_library
-    [ -f "$module" ] || fail 'the kit compiled no module that could be kept'
-    chmod 644 "$module"
-    now_up_to_date "$library" "$module"
+    library=target/staticlib/libterminal.a
+    up_to_date target/library.made-from terminal_c "$library" && return
+    prove 'the library' target/library.log "$(rests_on terminal_c)" make_library x86_64-unknown-linux-gnu "$library"
+    now_up_to_date "$library"
 }
 
-compile_library() {
-    # First what it depends on, as `rt check` proves several crates at once.
+# The same for a terminal with an ARM processor, in the file `arm_library`.
+build_arm_library() {
+    find_kit
+    arm_library=target/staticlib/aarch64/libterminal.a
+    up_to_date target/arm-library.made-from terminal_c "$arm_library" && return
+    prove 'the library for aarch64' target/arm-library.log "$(rests_on terminal_c)" make_library aarch64-unknown-linux-gnu "$arm_library"
+    now_up_to_date "$arm_library"
+}
+
+make_library() { # TARGET FILE
     # shellcheck disable=SC2046 # the names of crates are words
-    rt check $(rests_on terminal | grep -vx terminal) || return
+    prove_each $(rests_on terminal_c | grep -vx terminal_c) || return
+    prove_one terminal_c lib --target "$1" || return
+    install -D -m 644 crates/terminal_c/out/libterminal_c.a "$2"
+}
+
+# Leaves in the file `module` the LLVM module that the library is compiled from, which can be compiled in another way too.
+build_module() {
+    find_kit
+    module=target/module/terminal.ll
+    up_to_date target/module.made-from terminal_c "$module" && return
+    prove "the library's module" target/module.log "$(rests_on terminal_c)" make_module
+    [ -f "$module" ] || fail 'the kit compiled no module that could be kept'
+    now_up_to_date "$module"
+}
+
+make_module() {
+    # shellcheck disable=SC2046 # the names of crates are words
+    prove_each $(rests_on terminal_c | grep -vx terminal_c) || return
     shadow_kit target/module/kit
     rm -f "$module"
-    RATTLE_HOME=$PWD/target/module/kit rt staticlib terminal
+    PATH=$PWD/target/module/kit/bin:$PATH prove_one terminal_c lib
 }
 
-# Makes a copy of the kit by links, in which clang also keeps the module that it is given.
+# Makes a copy of the kit, mostly by links, in which clang also keeps the module that it is given.
 shadow_kit() { # FOLDER
     rm -rf "$1"
-    mkdir -p "$1/$tools/bin"
-    link_but "$kit" "$1" on
-    link_but "$kit/${tools%/*}" "$1/${tools%/*}" toolchain
-    link_but "$kit/$tools" "$1/$tools" bin
-    link_but "$kit/$tools/bin" "$1/$tools/bin" clang
-    cat >"$1/$tools/bin/clang" <<SCRIPT
+    mkdir -p "$1/bin" "$1/toolchain/bin"
+    link_but "$kit" "$1" bin toolchain
+    cp -p "$kit"/bin/* "$1/bin/"
+    link_but "$kit/toolchain" "$1/toolchain" bin
+    link_but "$kit/toolchain/bin" "$1/toolchain/bin" clang
+    cat >"$1/toolchain/bin/clang" <<SCRIPT
 #!/bin/sh
 for word in "\$@"; do
-    case \$word in *.bc | *.ll) cp "\$word" '$PWD/$module' ;; esac
+    case \$word in
+        *.bc) '$kit/toolchain/bin/clang' -S -emit-llvm -Xclang -disable-llvm-passes -x ir "\$word" -o '$PWD/$module' 2>/dev/null ;;
+        *.ll) cp "\$word" '$PWD/$module' ;;
+    esac
 done
-exec '$kit/$tools/bin/clang' "\$@"
+exec '$kit/toolchain/bin/clang' "\$@"
 SCRIPT
-    chmod +x "$1/$tools/bin/clang"
+    chmod +x "$1/toolchain/bin/clang"
 }
 
-# Links to everything in a folder except one name.
-link_but() { # FROM TO NAME
+# Links to everything in a folder except some names.
+link_but() { # FROM TO NAME...
     for file in "$1"/*; do
-        [ "${file##*/}" = "$3" ] || ln -s "$file" "$2/"
+        case " ${*:3} " in *" ${file##*/} "*) ;; *) ln -s "$file" "$2/" ;; esac
     done
 }

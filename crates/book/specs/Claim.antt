@@ -1,6 +1,6 @@
 -- Demand 3 as one claim about every list of session calls, from a new session, over any two areas, whatever the pieces and tables. It
 -- is stated for any set of functions for these calls. Definitions only.
-use Rattle.std.specs.Prelude.{ℕ, ◌≤◌, ◌≡◌, true, ◌↔◌, length, drop}
+use Rattle.std.specs.Prelude.{◌+◌, ℕ, ◌≤◌, ◌≡◌, true, ◌↔◌, length, drop}
 use mathlib.Core.List.{List, [], ◌++◌, map, Memᴰ}
 use Rattle.division.specs.Division.{Division}
 use Rattle.working_table.specs.declared.Record.{Record}

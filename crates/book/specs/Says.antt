@@ -12,6 +12,10 @@ use contract.Monad.{fact, Fun}
 use denote.Triple.Clauses.{Ended, Clauses, AtExit}
 use borrow.Fn.World.{World, ArgsD, ResD}
 
+-- what a contract promises a caller, as a claim about the arguments, the result and the arguments at the return
+abbrev pub Claim : Ended → Type 1
+Claim T = (κs : Lfts T.signature.lifetimes) → ArgsD T.signature κs → ResD T.signature κs → AtExit T κs → Type 0
+
 module _ (T : Ended) (c : (M : Type 1) (𝓤 : Ura M) (𝓛 : Logic 𝓤) → (Memory → SProp 𝓤) → (Routine → Fun 𝓤) → Clauses 𝓤 T) where
   -- the contract's clauses in one model of the logic
   abbrev pub at : (w : World) → Clauses w.𝓤 T

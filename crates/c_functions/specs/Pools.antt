@@ -15,7 +15,7 @@ use Rattle.queries.specs.Queries.{Labelled}
 use Rattle.queries.specs.declared.DeviceLabels.{DeviceLabels}
 use Rattle.judging.specs.Judging.{judge_number, judge_error}
 use Rattle.terminal.specs.Texts.{Gives}
-use Rattle.book.specs.Says.{Says}
+use Rattle.book.specs.Says.{Claim, Says}
 use Rattle.terminal.specs.contracts.lachsbrille_read as read-c
 use Rattle.terminal.specs.contracts.lachsbrille_check as check-c
 use Rattle.terminal.specs.contracts.lachsbrille_text_is_sound as sound-c
@@ -30,25 +30,43 @@ use Rattle.terminal.specs.contracts.exchange.lachsbrille_judge as judge-c
 abbrev pub read_says : Says read-c.ended (λ M 𝓤 𝓛. read-c.clauses 𝓛)
 read_says = record { Learnt = _; exact = λ w. refl }
 
+abbrev pub read_promises : Claim read-c.ended
+read_promises = read_says.Learnt
+
 -- what the contract of `lachsbrille_check` says
 abbrev pub check_says : Says check-c.ended (λ M 𝓤 𝓛. check-c.clauses 𝓛)
 check_says = record { Learnt = _; exact = λ w. refl }
+
+abbrev pub check_promises : Claim check-c.ended
+check_promises = check_says.Learnt
 
 -- what the contract of `lachsbrille_text_is_sound` says
 abbrev pub sound_says : Says sound-c.ended (λ M 𝓤 𝓛. sound-c.clauses 𝓛)
 sound_says = record { Learnt = _; exact = λ w. refl }
 
+abbrev pub sound_promises : Claim sound-c.ended
+sound_promises = sound_says.Learnt
+
 -- what the contract of `lachsbrille_text` says
 abbrev pub text_says : Says text-c.ended (λ M 𝓤 𝓛. text-c.clauses 𝓛)
 text_says = record { Learnt = _; exact = λ w. refl }
+
+abbrev pub text_promises : Claim text-c.ended
+text_promises = text_says.Learnt
 
 -- what the contract of `lachsbrille_labels` says
 abbrev pub labels_says : Says labels-c.ended (λ M 𝓤 𝓛. labels-c.clauses 𝓛)
 labels_says = record { Learnt = _; exact = λ w. refl }
 
+abbrev pub labels_promises : Claim labels-c.ended
+labels_promises = labels_says.Learnt
+
 -- what the contract of `lachsbrille_judge` says
 abbrev pub judge_says : Says judge-c.ended (λ M 𝓤 𝓛. judge-c.clauses 𝓛)
 judge_says = record { Learnt = _; exact = λ w. refl }
+
+abbrev pub judge_promises : Claim judge-c.ended
+judge_promises = judge_says.Learnt
 
 -- a pool read: number and value are reading's answer; `Reads` says what the answer means, by the division alone
 pub record ReadInto (p : List ℕ) (before : List Record) (number value : ℕ) (left : List Record) : Type 0 where
@@ -73,15 +91,15 @@ pub record JudgedInto (p : List ℕ) (before : List Record) (command element ddi
 -- for all arguments: a pool is read, checked and queried and a command judged as the definitions say, which also give the lent memory
 pub record PoolsAnswered : Type 0 where
   pub read : (κs : Lfts 3) (p : Bor (List ℕ)) (t : MutBor (List Record)) (v : MutBor ℕ) (r : ℕ) (t' : List Record) (v' : ℕ)
-      → read_says.Learnt κs (p, (t, (v, tt))) r (p, (at_last t t', (at_last v v', tt))) → ReadInto p.now t.now r v' t'
+      → read_promises κs (p, (t, (v, tt))) r (p, (at_last t t', (at_last v v', tt))) → ReadInto p.now t.now r v' t'
   pub check : (κs : Lfts 4) (p : Bor (List ℕ)) (t : MutBor (List Record)) (b : MutBor (List ℕ)) (v : MutBor ℕ) (r : ℕ) (t' : List Record) (b' : List ℕ) (v' : ℕ)
-      → check_says.Learnt κs (p, (t, (b, (v, tt)))) r (p, (at_last t t', (at_last b b', (at_last v v', tt)))) → CheckedInto p.now t.now b.now r v' t' b'
-  pub sound : (κs : Lfts 1) (s : Bor (List ℕ)) (r : Bool) → sound_says.Learnt κs (s, tt) r (s, tt) → (r ≡ true) ↔ Sound s.now
+      → check_promises κs (p, (t, (b, (v, tt)))) r (p, (at_last t t', (at_last b b', (at_last v v', tt)))) → CheckedInto p.now t.now b.now r v' t' b'
+  pub sound : (κs : Lfts 1) (s : Bor (List ℕ)) (r : Bool) → sound_promises κs (s, tt) r (s, tt) → (r ≡ true) ↔ Sound s.now
   pub text : (κs : Lfts 4) (p : Bor (List ℕ)) (t : MutBor (List Record)) (id : ℕ) (from to : MutBor ℕ) (r : ℕ) (t' : List Record) (from' to' : ℕ)
-      → text_says.Learnt κs (p, (t, (id, (from, (to, tt))))) r (p, (at_last t t', (id, (at_last from from', (at_last to to', tt)))))
+      → text_promises κs (p, (t, (id, (from, (to, tt))))) r (p, (at_last t t', (id, (at_last from from', (at_last to to', tt)))))
       → Gives p.now (length t.now) id r from' to' × Filled p.now t.now t'
   pub labels : (κs : Lfts 2) (p : Bor (List ℕ)) (t : MutBor (List Record)) (r : DeviceLabels) (t' : List Record)
-      → labels_says.Learnt κs (p, (t, tt)) r (p, (at_last t t', tt)) → Labelled p.now (length t.now) r × Filled p.now t.now t'
+      → labels_promises κs (p, (t, tt)) r (p, (at_last t t', tt)) → Labelled p.now (length t.now) r × Filled p.now t.now t'
   pub judge : (κs : Lfts 3) (p : Bor (List ℕ)) (t : MutBor (List Record)) (command element ddi : ℕ) (value : ℤ) (e : MutBor ℕ) (r : ℕ) (t' : List Record) (e' : ℕ)
-      → judge_says.Learnt κs (p, (t, (command, (element, (ddi, (value, (e, tt))))))) r (p, (at_last t t', (command, (element, (ddi, (value, (at_last e e', tt)))))))
+      → judge_promises κs (p, (t, (command, (element, (ddi, (value, (e, tt))))))) r (p, (at_last t t', (command, (element, (ddi, (value, (at_last e e', tt)))))))
       → JudgedInto p.now t.now command element ddi value r e' t'

@@ -15,13 +15,16 @@ use Rattle.terminal.specs.contracts.sessions.lachsbrille_session_deactivate as d
 use Rattle.terminal.specs.contracts.sessions.lachsbrille_session_delete as delete-contract
 use Rattle.terminal.specs.contracts.sessions.lachsbrille_session_lost as lost-contract
 use Rattle.working_table.specs.declared.Record.{Record}
-use Rattle.book.specs.Says.{Says, Reading, Asked, nothing}
+use Rattle.book.specs.Says.{Claim, Says, Reading, Asked, nothing}
 use Rattle.book.specs.Book.{Said, Call, offer, transfer, activate, deactivate, delete, lost}
 use Rattle.book.specs.Run.{Functions}
 
 -- what activating promises: the contract's own text, and `refl` checks that it is the whole contract. It asks nothing of its caller
 abbrev pub activate_says : Says activate-contract.ended (λ M 𝓤 𝓛. activate-contract.clauses 𝓛)
 activate_says = record { Learnt = _; exact = λ w. refl }
+
+abbrev pub activate_promises : Claim activate-contract.ended
+activate_promises = activate_says.Learnt
 
 -- what each of the other functions asks of its caller and promises: the contract's own text, likewise
 abbrev pub new_reads : Reading new-contract.ended (λ M 𝓤 𝓛. new-contract.clauses 𝓛)
@@ -51,7 +54,7 @@ pub data Does : Session → List ℕ → List ℕ → Call → StepFields → Li
       → Asked transfer_reads κs (s, (p, (st, tt))) → transfer_reads.Learnt κs (s, (p, (st, tt))) r (s, (p, (at_last st st', tt)))
       → Does s st.now k (transfer p.now) r st' k []
   does_activate : (κs : Lfts 3) (s : Session) (st : Bor (List ℕ)) (k : MutBor (List ℕ)) (t : MutBor (List Record)) (r : StepFields) (k' : List ℕ) (t' : List Record)
-      → activate_says.Learnt κs (s, (st, (k, (t, tt)))) r (s, (st, (at_last k k', (at_last t t', tt))))
+      → activate_promises κs (s, (st, (k, (t, tt)))) r (s, (st, (at_last k k', (at_last t t', tt))))
       → Does s st.now k.now (activate t.now) r st.now k' t'
   does_deactivate : (κs : Lfts 0) (s : Session) (st k : List ℕ) (r : StepFields)
       → Asked deactivate_reads κs (s, tt) → deactivate_reads.Learnt κs (s, tt) r (s, tt) → Does s st k deactivate r st k []

@@ -7,13 +7,16 @@ use Rattle.wire.specs.Parts.{place_in}
 use Rattle.working_table.specs.declared.Record.{Record}
 use Rattle.claims.specs.Reads.{Filled}
 use Rattle.queries.specs.Queries.{text_number, text_span, text_of}
-use Rattle.book.specs.Says.{Says}
+use Rattle.book.specs.Says.{Claim, Says}
 use Rattle.device_pool.specs.contracts.text as text-rattle
 
 -- what the contract says: its own text, which `refl` holds to the whole of the contract, so it asks nothing of its caller and no
 -- clause can be left out
 abbrev pub text_says : Says text-rattle.ended (λ M 𝓤 𝓛. text-rattle.clauses 𝓛)
 text_says = record { Learnt = _; exact = λ w. refl }
+
+abbrev pub text_promises : Claim text-rattle.ended
+text_promises = text_says.Learnt
 
 -- a slice is a part of another, in the same memory: it points behind the bytes that stand before its own
 pub record PartOf (p r : Bor (List ℕ)) : Type 0 where
@@ -35,4 +38,4 @@ pub record TextGiven (p : Bor (List ℕ)) (before : List Record) (id : ℕ) (r :
 abbrev pub TextsLent : Type 0
 TextsLent =
     (κs : Lfts 3) (p : Bor (List ℕ)) (t : MutBor (List Record)) (id : ℕ) (n : MutBor ℕ) (r : Bor (List ℕ)) (t' : List Record) (n' : ℕ)
-    → text_says.Learnt κs (p, (t, (id, (n, tt)))) r (p, (at_last t t', (id, (at_last n n', tt)))) → TextGiven p t.now id r n' t'
+    → text_promises κs (p, (t, (id, (n, tt)))) r (p, (at_last t t', (id, (at_last n n', tt)))) → TextGiven p t.now id r n' t'
