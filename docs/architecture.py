@@ -19,8 +19,8 @@ PICTURE = 1295, 1105
 
 # Each layer: its name in lines, its first row and its last.
 LAYERS = [
-    (["claims about", "C and texts"], 0, 0),
-    (["programs,", "C boundary"], 1, 1),
+    (["exports; claims", "about C and texts"], 0, 0),
+    (["program,", "C functions"], 1, 1),
     (["interface"], 2, 2),
     (["accepted pools,", "sessions, logs,", "messages"], 3, 5),
     (["checking"], 6, 11),
@@ -33,7 +33,8 @@ BOXES = {
     "c_functions": ("exchange", 0, "what C is promised"),
     "query_claims": ("table", 0, "texts and labels"),
     "c_sessions": ("claim", 0, "the one claim, of C"),
-    "terminal": ("exchange", 1, "the C boundary, a static library"),
+    "terminal_c": ("spine", 0, "the exports for C"),
+    "terminal": ("exchange", 1, "the functions that C calls"),
     "lister": ("lines", 1, "the program"),
     "device_pool": ("device", 2, "over the lent table"),
     "commands": ("command", 2, "over the lent table"),
@@ -65,20 +66,21 @@ BOXES = {
     "text": ("beside", 12, "one text examined"),
     "naming": ("spine", 12, "what an ID names"),
     "working_table": ("table", 12, "the lent table"),
-    "filling": ("session", 12, "one law for the table"),
+    "filling": ("session", 12, "a law of its own"),
     "views": ("beside", 13, "a record's fields"),
     "pool": ("spine", 13, "reading a pool"),
     "records": ("spine", 14, "the five records"),
     "division": ("claim", 14, "independent account"),
     "wire": ("spine", 15, "numbers in bytes"),
 }
-PROGRAMS = {"terminal", "lister"}
+PROGRAMS = {"terminal_c", "lister"}
 CLAIMS = {"c_functions", "c_sessions", "query_claims", "cases", "book", "claims", "division"}
 
 # Arrows that do not go straight: from which side and how far from its middle, the turns in between (x or y in turn), to
 # which side and how far from its middle.
 BENDS = {
     ("c_functions", "terminal"): ("bottom", 0, [], "top", -230),
+    ("terminal_c", "terminal"): ("bottom", 0, [], "top", 50),
     ("c_functions", "book"): ("top", 40, [-0.5, 997], "left", -9),
     ("query_claims", "device_pool"): ("right", 0, [1002, 1.5], "top", 30),
     ("query_claims", "book"): ("right", -12, [992], "left", 3),
@@ -104,7 +106,6 @@ BENDS = {
     ("rules", "faults"): ("right", 0, [], "left", 0),
     ("faults", "pool"): ("right", 0, [997], "right", 9),
     ("rules", "text"): ("bottom", -30, [11.5], "top", 0),
-    ("working_table", "filling"): ("right", 0, [], "left", 0),
     ("working_table", "pool"): ("bottom", 0, [], "right", 0),
     ("naming", "views"): ("bottom", -30, [12.5], "top", 30),
     ("text", "wire"): ("left", 0, [380], "left", -12),
@@ -149,7 +150,7 @@ def dependencies():
     """The crates of crates.txt with those they name; what the kit brings is left out."""
     lines = (DOCS.parent / "crates.txt").read_text().splitlines()
     rows = [line.split(":") for line in lines if line.strip() and not line.startswith("#")]
-    named = {crate.strip(): used.split() for crate, used in rows}
+    named = {crate.split()[0]: used.split() for crate, used in rows}
     return {crate: {it for it in used if it in named} for crate, used in named.items()}
 
 
