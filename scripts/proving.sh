@@ -161,32 +161,25 @@ make_lister() {
     install -D crates/lister/out/lister target/bin/lister
 }
 
-# Leaves the library for this machine's kind in the file `library`. It is proved anew if it or a source has changed.
+# Leaves the library for x86-64 in the file `library`. It is proved anew if it or a source has changed.
 build_library() {
     find_kit
     library=target/staticlib/libterminal.a
     up_to_date target/library.made-from terminal_c "$library" && return
-    prove 'the library' target/library.log "$(rests_on terminal_c)" make_library x86_64-unknown-linux-gnu "$library"
+    prove 'the library' target/library.log "$(rests_on terminal_c)" make_library
     now_up_to_date "$library"
 }
 
-# The same for a terminal with an ARM processor, in the file `arm_library`.
-build_arm_library() {
-    find_kit
-    arm_library=target/staticlib/aarch64/libterminal.a
-    up_to_date target/arm-library.made-from terminal_c "$arm_library" && return
-    prove 'the library for aarch64' target/arm-library.log "$(rests_on terminal_c)" make_library aarch64-unknown-linux-gnu "$arm_library"
-    now_up_to_date "$arm_library"
-}
-
-make_library() { # TARGET FILE
+# Its code is for every processor of the kind.
+make_library() {
     # shellcheck disable=SC2046 # the names of crates are words
     prove_each $(rests_on terminal_c | grep -vx terminal_c) || return
-    prove_one terminal_c lib --target "$1" || return
-    install -D -m 644 crates/terminal_c/out/libterminal_c.a "$2"
+    prove_one terminal_c lib --cpu x86-64 || return
+    install -D -m 644 crates/terminal_c/out/libterminal_c.a "$library"
 }
 
-# Leaves in the file `module` the LLVM module that the library is compiled from, which can be compiled in another way too.
+# Leaves in the file `module` the LLVM module that the library is compiled from, which can be compiled for another machine, or in another
+# way.
 build_module() {
     find_kit
     module=target/module/terminal.ll
@@ -201,7 +194,7 @@ make_module() {
     prove_each $(rests_on terminal_c | grep -vx terminal_c) || return
     shadow_kit target/module/kit
     rm -f "$module"
-    PATH=$PWD/target/module/kit/bin:$PATH prove_one terminal_c lib
+    PATH=$PWD/target/module/kit/bin:$PATH prove_one terminal_c lib --cpu x86-64
 }
 
 # Makes a copy of the kit, mostly by links, in which clang also keeps the module that it is given.

@@ -19,6 +19,7 @@ fn listed() -> Uses {
     let mut uses: Uses = lines
         .map(|(name, used)| {
             let used = used.split_whitespace().map(str::to_owned);
+            let name = name.split_whitespace().next().unwrap_or(name);
             (name.to_owned(), used.collect())
         })
         .collect();
