@@ -29,8 +29,9 @@ const STRUCTS: [(&str, &str, &str); 16] = [
 ];
 
 /// Parameters with a short name in Rattle: that name, the type and C's name.
-const NAMES: [(&str, &str, &str); 3] = [
+const NAMES: [(&str, &str, &str); 4] = [
     ("p", "&[u8]", "pool"),
+    ("res", "&mut f64", "result"),
     ("s", "Session", "session"),
     ("s", "&[u8]", "text"),
 ];
@@ -314,7 +315,7 @@ fn spelled(declaration: &str) -> String {
 
 fn functions_of_rattle() -> Declared {
     let mut declared = Declared::new();
-    for path in sources("crates/terminal/src", "rt") {
+    for path in sources("crates/terminal_c/src", "rt") {
         let source = fs::read_to_string(path).unwrap();
         for function in source.split("pub extern \"C\" fn ").skip(1) {
             let (name, rest) = function.split_once('(').unwrap();
@@ -377,7 +378,8 @@ fn c_type(name: &str, home: &str, source: &str) -> String {
     let owner = source.lines().find_map(|line| {
         let path = line.strip_prefix("use ")?.strip_suffix(';')?;
         let (owner, used) = path.split_once("::")?;
-        (used == name).then_some(owner)
+        let mut used = used.trim_matches(['{', '}']).split(", ");
+        used.any(|used| used == name).then_some(owner)
     });
     let owner = owner.unwrap_or(home);
     let found = STRUCTS.iter().find(|it| (it.0, it.1) == (owner, name));
@@ -391,7 +393,7 @@ fn c_type(name: &str, home: &str, source: &str) -> String {
 fn structs_of_rattle() -> Declared {
     let mut declared = Declared::new();
     for (owner, name, rust) in STRUCTS {
-        let head = format!("#[repr(C)]\npub struct {name} {{");
+        let head = format!("#[repr(C)]\n#[derive(Clone, Copy)]\npub struct {name} {{");
         let sources = sources(&format!("crates/{owner}/src"), "rt");
         let source = sources
             .into_iter()
