@@ -5,7 +5,8 @@
 ghost use Rattle.std.specs.Prelude.{◌+◌, ◌^◌, ◌≤◌, ◌<◌, ◌≡◌, length};
 ghost use Rattle.lister.specs.Reading.{input_after, Further, Over};
 
-use std::io::{Read, Write};
+use std::io::{ErrorKind, Read, Write};
+use std::process::ExitCode;
 
 // How far reading has come: this many bytes and perhaps more to come, all bytes, namely this many, or a read that failed.
 #[derive(Clone, Copy)]
@@ -71,29 +72,36 @@ fn report(rt: &HostRuntime, message: &[u8]) {
     let _ = rt.stderr().write_all(message);
 }
 
-// Writes a listing to standard output. A write that fails is reported on standard error.
-fn write_out(rt: &HostRuntime, listing: &[u8]) {
-    if rt.stdout().write_all(listing).is_ok() {
-        return;
+// The status of a program that is ended since nobody reads what it writes any more, as a shell gives it.
+const UNREAD: u8 = 141;
+
+// Writes a listing to standard output. A write that fails is reported on standard error, but where its reader has stopped reading.
+fn write_out(rt: &HostRuntime, listing: &[u8]) -> u8 {
+    match rt.stdout().write_all(listing) {
+        Ok(()) => 0,
+        Err(error) if error.kind() == ErrorKind::BrokenPipe => UNREAD,
+        Err(_) => {
+            report(rt, b"lister: standard output cannot be written\n");
+            0
+        }
     }
-    report(rt, b"lister: standard output cannot be written\n");
 }
 
-fn run(rt: &HostRuntime, input: &mut [u8], out: &mut [u8])
+fn run(rt: &HostRuntime, input: &mut [u8], out: &mut [u8]) -> u8
     requires { 102413 ≤ length out.old }
 {
     let read = read_input(rt, input);
     let Input::Ended(n) = read else {
         report(rt, b"lister: standard input cannot be read\n");
-        return;
+        return 0;
     };
     let end = pool_listing::list(&input[..n], out);
-    write_out(rt, &out[..end]);
+    write_out(rt, &out[..end])
 }
 
 // The input buffer has one byte more than a pool may have, so that too long an input is noticed.
-fn main(rt: HostRuntime) {
+fn main(rt: HostRuntime) -> ExitCode {
     let mut input = [0u8; 65536];
     let mut out = [0u8; 102413];
-    run(&rt, &mut input, &mut out);
+    ExitCode::from(run(&rt, &mut input, &mut out))
 }
