@@ -39,14 +39,14 @@ rests_on() { # CRATE...
         }' crates.txt
 }
 
-# Runs a command that proves some crates, with all its output in a log. On a terminal one line shows its progress.
-prove() { # WHAT LOG CRATES COMMAND...
-    what=$1 log=$2 crates=$3 shown=-1
+# Runs a command that proves something and all that it rests on, with all its output in a log. On a terminal one line shows its progress.
+prove() { # WHAT LOG COMMAND...
+    what=$1 log=$2 shown=-1
     say "proving $what, which takes some minutes the first time; the log is $log"
-    shift 3
+    shift 2
     mkdir -p target/log
     wait_for_turn
-    for crate in $crates; do rm -f "target/log/$crate.out"; done
+    rm -f target/log/*.out
     began=$SECONDS
     # As a job of its own, so that all its provers can be ended at once.
     set -m
@@ -89,38 +89,30 @@ end_provers() { # STATUS
     exit "$1"
 }
 
-# Proves some crates, each below those after it: what is said of one stands in target/log/CRATE.out.
-prove_each() { # CRATE...
-    for crate in "$@"; do prove_one "$crate" check || return; done
-}
-
-# Has rt prove one crate, and make of it what a command of rt makes.
+# Has rt prove one crate, and what it rests on, and make of it what a command of rt makes. What is said stands in target/log/CRATE.out.
 prove_one() { # CRATE COMMAND WORDS...
     if (cd "crates/$1" && rt "${@:2}") </dev/null >"target/log/$1.out" 2>&1; then
-        echo "rt: $1 proved" | tee -a "target/log/$1.out"
+        echo "rt: $1 proved"
     else
-        echo "rt: $1 NOT PROVED" >>"target/log/$1.out"
         tail -n 20 "target/log/$1.out"
-        echo "rt: FAILED: $1"
+        failed=$(begun | tail -n 1)
+        echo "rt: ${failed:=$1} NOT PROVED"
+        echo "rt: FAILED: $failed"
         return 1
     fi
 }
 
-# Shows, once a second, how many crates are proved, which is being proved, and the time so far.
+# The crates that rt has begun to prove, each once.
+begun() {
+    cat target/log/*.out 2>/dev/null | sed -n 's/^rt: chose --jobs [0-9]* for \([a-z0-9_]*\)$/\1/p' | awk '!seen[$0]++'
+}
+
+# Shows, once a second, how many crates are proved, which one is being proved, and the time so far.
 show_progress() {
     [ $((SECONDS - began)) -ne "$shown" ] || return 0
-    shown=$((SECONDS - began)) count=0 ended=0 now=
-    for crate in $crates; do
-        count=$((count + 1))
-        [ -f "target/log/$crate.out" ] || continue
-        if grep -q '^rt: .*\(proved\|NOT PROVED\)' "target/log/$crate.out"; then
-            ended=$((ended + 1))
-        else
-            now="$now $crate"
-        fi
-    done
-    if [ "$ended" -eq $((count - 1)) ]; then now=${now:- $crate}; fi
-    line="$program: $ended of $count crates proved${now:+, now:$now} ($shown s)"
+    shown=$((SECONDS - began))
+    now=$(begun | tail -n 1) count=$(begun | wc -l)
+    line="$program: proved: $((count > 0 ? count - 1 : 0))${now:+, now: $now} ($shown s)"
     printf '\r%s\033[K' "${line:0:79}" >&2
 }
 
@@ -149,14 +141,12 @@ now_up_to_date() { # FILE...
 build_lister() {
     find_kit
     up_to_date target/lister.made-from lister target/bin/lister && return
-    prove 'the lister' target/lister.log "$(rests_on lister)" make_lister
+    prove 'the lister' target/lister.log make_lister
     now_up_to_date target/bin/lister
 }
 
 # rt makes a program by running it: here on no input.
 make_lister() {
-    # shellcheck disable=SC2046 # the names of crates are words
-    prove_each $(rests_on lister | grep -vx lister) || return
     prove_one lister run || return
     install -D crates/lister/out/lister target/bin/lister
 }
@@ -166,14 +156,12 @@ build_library() {
     find_kit
     library=target/staticlib/libterminal.a
     up_to_date target/library.made-from terminal_c "$library" && return
-    prove 'the library' target/library.log "$(rests_on terminal_c)" make_library
+    prove 'the library' target/library.log make_library
     now_up_to_date "$library"
 }
 
 # Its code is for every processor of the kind.
 make_library() {
-    # shellcheck disable=SC2046 # the names of crates are words
-    prove_each $(rests_on terminal_c | grep -vx terminal_c) || return
     prove_one terminal_c lib --cpu x86-64 || return
     install -D -m 644 crates/terminal_c/out/libterminal_c.a "$library"
 }
@@ -184,14 +172,12 @@ build_module() {
     find_kit
     module=target/module/terminal.ll
     up_to_date target/module.made-from terminal_c "$module" && return
-    prove "the library's module" target/module.log "$(rests_on terminal_c)" make_module
+    prove "the library's module" target/module.log make_module
     [ -f "$module" ] || fail 'the kit compiled no module that could be kept'
     now_up_to_date "$module"
 }
 
 make_module() {
-    # shellcheck disable=SC2046 # the names of crates are words
-    prove_each $(rests_on terminal_c | grep -vx terminal_c) || return
     shadow_kit target/module/kit
     rm -f "$module"
     PATH=$PWD/target/module/kit/bin:$PATH prove_one terminal_c lib --cpu x86-64
