@@ -7,3 +7,4 @@ pub mod Turns
 pub mod Lists
 pub mod Exists
 pub mod InRattle
+pub mod Exact

@@ -26,6 +26,10 @@ module _ (T : Ended) (c : (M : Type 1) (𝓤 : Ura M) (𝓛 : Logic 𝓤) → (M
     pub Learnt : (κs : Lfts T.signature.lifetimes) → ArgsD T.signature κs → ResD T.signature κs → AtExit T κs → Type 0
     pub exact : (w : World) → at w ≡ (λ κs a. record { ghost = Unit {0}; requires = λ g. emp w.𝓤; ensures = λ g r s. fact w.𝓤 (Learnt κs a r s) })
 
+  -- that a claim is all that the contract promises, and that it asks nothing: the same for a claim that is given
+  abbrev pub Exactly : Claim T → Type 2
+  Exactly promises = (w : World) → at w ≡ (λ κs a. record { ghost = Unit {0}; requires = λ g. emp w.𝓤; ensures = λ g r s. fact w.𝓤 (promises κs a r s) })
+
 -- what a contract asks of a caller: nothing, or a claim
 pub data Ask : Type 1 where
   nothing : Ask

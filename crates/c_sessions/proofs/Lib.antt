@@ -1,2 +1,3 @@
 -- Laws that are not about a single function.
 pub mod InC
+pub mod Exact

@@ -1,0 +1,2 @@
+-- Laws that are not about a single function.
+pub mod Exact
