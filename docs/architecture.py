@@ -104,7 +104,7 @@ BENDS = {
     ("record_breaches", "marks"): ("left", 0, [388], "left", 0),
     ("chains", "rules"): ("bottom", 30, [10.5], "top", -30),
     ("rules", "faults"): ("right", 0, [], "left", 0),
-    ("faults", "pool"): ("right", 0, [997], "right", 9),
+    ("faults", "naming"): ("bottom", -30, [11.5], "top", 30),
     ("rules", "text"): ("bottom", -30, [11.5], "top", 0),
     ("working_table", "pool"): ("bottom", 0, [], "right", 0),
     ("naming", "views"): ("bottom", -30, [12.5], "top", 30),

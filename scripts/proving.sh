@@ -102,9 +102,9 @@ prove_one() { # CRATE COMMAND WORDS...
     fi
 }
 
-# The crates that rt has begun to prove, each once.
+# The crates that rt has begun to prove, each once: none as long as there is no log.
 begun() {
-    cat target/log/*.out 2>/dev/null | sed -n 's/^rt: chose --jobs [0-9]* for \([a-z0-9_]*\)$/\1/p' | awk '!seen[$0]++'
+    { cat target/log/*.out 2>/dev/null || true; } | sed -n 's/^rt: chose --jobs [0-9]* for \([a-z0-9_]*\)$/\1/p' | awk '!seen[$0]++'
 }
 
 # Shows, once a second, how many crates are proved, which one is being proved, and the time so far.

@@ -393,14 +393,18 @@ fn c_type(name: &str, home: &str, source: &str) -> String {
 fn structs_of_rattle() -> Declared {
     let mut declared = Declared::new();
     for (owner, name, rust) in STRUCTS {
-        let head = format!("#[repr(C)]\n#[derive(Clone, Copy)]\npub struct {name} {{");
+        let heads = ["Clone, Copy", "Clone, Copy, Default"]
+            .map(|derived| format!("#[repr(C)]\n#[derive({derived})]\npub struct {name} {{"));
         let sources = sources(&format!("crates/{owner}/src"), "rt");
-        let source = sources
+        let (head, source) = sources
             .into_iter()
             .map(|path| fs::read_to_string(path).unwrap())
-            .find(|source| source.contains(&head))
+            .find_map(|source| {
+                let head = heads.iter().find(|head| source.contains(*head))?;
+                Some((head, source))
+            })
             .unwrap_or_else(|| panic!("{owner}::{name} is not there"));
-        let fields = source.split_once(&head).unwrap().1;
+        let fields = source.split_once(head.as_str()).unwrap().1;
         let fields = fields.split_once("\n}").unwrap().0;
         let fields = fields_of(fields, |kind| c_type(kind, owner, &source));
         declared.insert(c_name(rust), fields);

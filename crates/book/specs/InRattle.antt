@@ -1,12 +1,12 @@
 -- The session calls of Rattle. Each call's outcome is one that the contract of its function allows: `Asked` and `Learnt` are what the
 -- contract asks of a caller and what it promises, read off its own text, so no contract is repeated here. Definitions only.
-use Rattle.std.specs.Prelude.{refl, List, [], ℕ}
+use Rattle.std.specs.Prelude.{refl, List, [], ℕ, ⊤, Result}
 use denote.Bor.{Bor}
 use denote.MutBor.{MutBor}
 use denote.Ref.{at_last}
 use contract.Lifetimes.{Lfts}
 use Rattle.session.specs.Answers.{reply_of}
-use Rattle.session.specs.declared.Answer.{Answer}
+use Rattle.session.specs.declared.Refusal.{Refusal}
 use Rattle.session.specs.declared.Session.{Session}
 use Rattle.session.specs.declared.Step.{Step}
 use Rattle.session.specs.contracts.new as new-contract
@@ -79,7 +79,7 @@ pub record Free : Type 0 where
   pub of_lost : (κs : Lfts 0) (s : Session) → Asked lost_reads κs (s, tt)
 
 -- what an answer tells a client: the numbers that `reply_of` gives for it
-abbrev pub told : Answer → Said
+abbrev pub told : Result ⊤ Refusal → Said
 told a = record { number = (reply_of a).number; place = (reply_of a).place; first = (reply_of a).first }
 
 -- the functions of Rattle, in the form that the claim takes

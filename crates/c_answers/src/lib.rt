@@ -1,48 +1,57 @@
-// Answers as a C caller gets them: the number is the result; a place, a count or fields are written to lent numbers or to a struct.
+// Answers as a C caller gets them: the number is the result; a place, a count or fields are written to lent numbers or to a struct. A
+// function that writes to lent numbers is no `From`.
 #![tactic(auto)]
 
 ghost use Rattle.std.specs.Prelude.{◌≡◌};
 ghost use Rattle.pool.specs.Answer.{answer_of};
 ghost use Rattle.checker.specs.Checking.{verdict_of};
 ghost use Rattle.session.specs.Calls.{step_of};
-ghost use Rattle.messages.specs.Reading.{refused, fields_of};
+ghost use Rattle.messages.specs.Reading.{fields_of};
 ghost use Rattle.c_answers.specs.Numbers.{Says};
 ghost use Rattle.c_answers.specs.Exchange.{fields_in};
 ghost use Rattle.c_answers.specs.Steps.{step_in};
 
-use checker::Verdict;
-use judging::Judgement;
-use messages::Message;
-use pool::Outcome;
-use queries::Place;
+use checker::Checked;
+use messages::{Message, Unread};
+use records::Span;
 use session::{Session, Step};
 
-pub fn give_outcome(outcome: Outcome, value: &mut usize) -> u32
+// The count of records, or the place of a refusal.
+pub fn give_outcome(outcome: Result<usize, pool::Refusal>, value: &mut usize) -> u32
     ensures { Says (answer_of outcome) result value.new }
 {
-    *value = pool::value_of(outcome);
-    pool::number_of(outcome)
+    match outcome {
+        Ok(count) => {
+            *value = count;
+            0
+        }
+        Err(refusal) => {
+            *value = refusal.place();
+            u32::from(refusal)
+        }
+    }
 }
 
-pub fn give_verdict(verdict: Verdict, value: &mut usize) -> u32
+// The count of faults, or the place of a refusal.
+pub fn give_verdict(verdict: Result<Checked, pool::Refusal>, value: &mut usize) -> u32
     ensures { Says (verdict_of verdict) result value.new }
 {
-    *value = checker::value_of(verdict);
-    checker::number_of(verdict)
+    give_outcome(verdict.map(|checked| checked.faults), value)
 }
 
-pub fn give_place(place: Place, from: &mut usize, to: &mut usize) -> u32
-    ensures { (result ≡ place.number) × (from.new ≡ place.from) × (to.new ≡ place.to) }
+// The number and the place of a text. It takes any number and any place, one by one and in no Result, as `queries::text_at` does.
+pub fn give_place(told: u32, span: Span, from: &mut usize, to: &mut usize) -> u32
+    ensures { (result ≡ told) × (from.new ≡ span.from) × (to.new ≡ span.to) }
 {
-    *from = place.from;
-    *to = place.to;
-    place.number
+    *from = span.from;
+    *to = span.to;
+    told
 }
 
 // A message that is read: number 0 and its fields, where an acknowledge has command 13, or the number of a refusal with zeros. In this
 // order the fields take 16 bytes, which x86-64 and aarch64 both return in two registers.
 #[repr(C)]
-#[derive(Clone, Copy)]
+#[derive(Clone, Copy, Default)]
 pub struct MessageFields {
     pub number: u32,
     pub value: i32,
@@ -53,62 +62,57 @@ pub struct MessageFields {
     pub answered: u8,
 }
 
-fn give_refusal(number: u32) -> MessageFields
-    ensures { fields_in result ≡ refused number }
-{
-    MessageFields {
-        number,
-        value: 0,
-        element: 0,
-        ddi: 0,
-        command: 0,
-        errors: 0,
-        answered: 0,
+impl From<Result<Message, Unread>> for MessageFields {
+    ghost from_gives = { λ message fields. fields_in fields ≡ fields_of message };
+
+    fn from(message: Result<Message, Unread>) -> MessageFields {
+        match message {
+            Ok(
+                Message::Value {
+                    command,
+                    element,
+                    ddi,
+                    value,
+                },
+            ) => MessageFields {
+                number: 0,
+                value,
+                element,
+                ddi,
+                command,
+                errors: 0,
+                answered: 0,
+            },
+            Ok(
+                Message::Acknowledge {
+                    element,
+                    ddi,
+                    errors,
+                    answered,
+                },
+            ) => MessageFields {
+                number: 0,
+                value: 0,
+                element,
+                ddi,
+                command: 13,
+                errors,
+                answered,
+            },
+            Err(refusal) => MessageFields {
+                number: refusal.into(),
+                ..MessageFields::default()
+            },
+        }
     }
 }
 
-pub fn give_message(message: Message) -> MessageFields
-    ensures { fields_in result ≡ fields_of message }
+// The number and the error byte of a command, one by one, too.
+pub fn give_judgement(number: u32, byte: u8, error: &mut u8) -> u32
+    ensures { (result ≡ number) × (error.new ≡ byte) }
 {
-    match message {
-        Message::Value {
-            command,
-            element,
-            ddi,
-            value,
-        } => MessageFields {
-            number: 0,
-            value,
-            element,
-            ddi,
-            command,
-            errors: 0,
-            answered: 0,
-        },
-        Message::Acknowledge {
-            element,
-            ddi,
-            errors,
-            answered,
-        } => MessageFields {
-            number: 0,
-            value: 0,
-            element,
-            ddi,
-            command: 13,
-            errors,
-            answered,
-        },
-        Message::NotEight => give_refusal(30),
-        Message::NoCommand => give_refusal(31),
-    }
-}
-
-pub fn give_judgement(judgement: Judgement, error: &mut u8) -> u32
-    ensures { (result ≡ judgement.number) × (error.new ≡ judgement.error) }
-{
-    *error = judgement.error;
-    judgement.number
+    *error = byte;
+    number
 }
 
 // The session value after a call and the call's answer: number 0, or a refusal's number with its place or the first fault.
@@ -125,20 +129,21 @@ pub struct StepFields {
     pub parent: u16,
 }
 
-pub fn give_step(step: Step) -> StepFields
-    ensures { step_in result ≡ step_of step }
-{
-    let session = step.session;
-    let answer = step.answer;
-    let n = session::numbers_of(answer);
-    StepFields {
-        session,
-        place: n.place,
-        number: n.number,
-        record: n.record,
-        rule: n.rule,
-        item: n.item,
-        id: n.id,
-        parent: n.parent,
+impl From<Step> for StepFields {
+    ghost from_gives = { λ step fields. step_in fields ≡ step_of step };
+
+    fn from(step: Step) -> StepFields {
+        let answer = session::Numbers::from(step.answer);
+        let fault = answer.fault;
+        StepFields {
+            session: step.session,
+            place: answer.place,
+            number: answer.number,
+            record: fault.record,
+            rule: fault.rule,
+            item: fault.item,
+            id: fault.id,
+            parent: fault.parent,
+        }
     }
 }

@@ -1,132 +1,132 @@
 // Which chains of parents never end, and which device elements repeat an element number. Both depend on many records, so they are found
-// for all records at once and marked by record number.
+// for all records at once and marked by record number. Marks are blank before and set afterwards, so each function asks that they are
+// blank, and no type has it as a ghost fact.
 #![tactic(auto)]
 
-ghost use Rattle.std.specs.Prelude.{◌≡◌, false, not, ◌&&◌, ℕ, suc, ◌+◌, ◌*◌, ◌≤◌, ◌<◌, eqb, length, get_or};
-ghost use Rattle.pool.specs.Walk.{entries_of, Divided};
+ghost use Rattle.std.specs.Prelude.{◌≡◌, false, not, ◌&&◌, ℕ, suc, ◌+◌, ◌-◌, ◌*◌, ◌≤◌, ◌<◌, eqb, length, get_or};
 ghost use Rattle.marks.specs.Bits.{bit_at};
 ghost use Rattle.naming.specs.Records.{kind_at};
 ghost use Rattle.naming.specs.Naming.{parent_of, climb};
+ghost use Rattle.naming.specs.Entries.{entries_in};
 ghost use Rattle.naming.specs.Lists.{Blank};
-ghost use Rattle.naming.specs.Chained.{Names};
 ghost use Rattle.rules.specs.Table.{repeats, element_key};
 ghost use Rattle.chains.specs.Steps.{Climbs, Doubles, Closed, Ended};
 ghost use Rattle.chains.specs.Noted.{Noted};
 
+use naming::{NamedRecords, RecordList};
+use pool::LONG_LIST;
+use records::Kind;
+
 // Stores for each record, by its number, where one or more steps up its chain of parents lead: to the parent or, if the parent comes
 // before the record, to where the parent's own steps lead. Returns whether there is a chain that has not ended.
-fn parents(p: &[u8], starts: &[u16], heads: &[u16], next: &[u16], ups: &mut [u16]) -> bool
-    requires { Names p.now starts.now heads.now next.now × (length starts.now ≤ length ups.old) × Blank ups.old }
-    ensures { Climbs (parent_of p.now (entries_of p.now starts.now)) (length (entries_of p.now starts.now)) 1 ups.new × (result ≡ false → (r : ℕ) → r ≤ length (entries_of p.now starts.now) → get_or ups.new r 0 ≡ 0) }
+fn parents(names: &NamedRecords, ups: &mut [u16]) -> bool
+    requires { (length ups.old ≡ length names.now.records.starts.now) × Blank ups.old }
+    ensures { Climbs (parent_of names.now.records.pool.now (entries_in names.now.records)) (length (entries_in names.now.records)) 1 ups.new × (result ≡ false → (r : ℕ) → r ≤ length (entries_in names.now.records) → get_or ups.new r 0 ≡ 0) }
 {
     let mut left = false;
-    let mut r: usize = 1;
-    while r < starts.len() {
-        let mut up = naming::parent_at(p, starts, heads, next, r as u16);
+    // By index: a step may read another place of the list that it changes, which no iterator lends.
+    for r in 1..ups.len() {
+        let mut up = names.parent_at(r as u16);
         if (up as usize) < r {
             up = ups[up as usize];
         }
         ups[r] = up;
         left = left | (up != 0);
-        r += 1;
     }
     left
 }
 
 // Extends the steps of each record by those from where they lead, which at least doubles them. It goes from the last record to the first,
 // so that a chain whose parents come after their children is climbed in one round. Returns whether a chain has ended in this round.
-fn jump(ups: &mut [u16], count: usize) -> bool
-    requires { (count ≤ 8192) × (count < length ups.old) × (get_or ups.old 0 0 ≡ 0) × ((r : ℕ) → r ≤ count → get_or ups.old r 0 ≤ count) }
-    ensures { Doubles count ups.old ups.new × (result ≡ false → Closed count ups.old × ((r : ℕ) → r ≤ count → get_or ups.old r 0 ≡ 0 → get_or ups.new r 0 ≡ 0)) }
+fn jump(ups: &mut [u16]) -> bool
+    requires { (0 < length ups.old) × (length ups.old ≤ 8192) × (get_or ups.old 0 0 ≡ 0) × ((r : ℕ) → r ≤ length ups.old - 1 → get_or ups.old r 0 ≤ length ups.old - 1) }
+    ensures { Doubles (length ups.old - 1) ups.old ups.new × (result ≡ false → Closed (length ups.old - 1) ups.old × ((r : ℕ) → r ≤ length ups.old - 1 → get_or ups.old r 0 ≡ 0 → get_or ups.new r 0 ≡ 0)) }
 {
     let mut ended = false;
-    let mut r = count;
-    while 0 < r {
+    // By index: each step reads another place of the list that it changes, which no iterator lends.
+    for r in (1..ups.len()).rev() {
         let up = ups[r];
         let next = ups[up as usize];
         ups[r] = next;
         ended = ended | ((up != 0) & (next == 0));
-        r -= 1;
     }
     ended
 }
 
-// Finds for every record whether its chain of parents ends. After a round in which no chain has ended, none will.
-fn chains(p: &[u8], starts: &[u16], heads: &[u16], next: &[u16], ups: &mut [u16])
-    requires { Names p.now starts.now heads.now next.now × (length starts.now ≤ length ups.old) × Blank ups.old }
-    ensures { Ended p.now (entries_of p.now starts.now) ups.new }
+// Finds for every record whether its chain of parents ends. After a round in which no chain has ended, none will. The steps double with
+// each round, which no range counts.
+fn chains(names: &NamedRecords, ups: &mut [u16])
+    requires { (length ups.old ≡ length names.now.records.starts.now) × Blank ups.old }
+    ensures { Ended names.now.records.pool.now (entries_in names.now.records) ups.new }
 {
-    if !parents(p, starts, heads, next, ups) {
+    if !parents(names, ups) {
         return;
     }
-    let count = starts.len() - 1;
+    let count = ups.len() - 1;
     let mut steps: usize = 1;
     while steps < count {
-        if !jump(ups, count) {
+        if !jump(ups) {
             return;
         }
         steps *= 2;
     }
 }
 
-// Marks the records whose chains have not ended: those for which `ups` does not have 0.
-fn mark_left(ups: &[u16], count: usize, marks: &mut [u8])
-    requires { (count < length ups.now) × Blank marks.old × (count ≤ 8 * length marks.old) }
-    ensures { (i : ℕ) → i < count → bit_at marks.new i ≡ not (eqb (get_or ups.now (suc i) 0) 0) }
+// Marks the numbers for which `left` does not have 0.
+fn mark_left(left: &[u16], marks: &mut [u8])
+    requires { Blank marks.old × (length left.now ≤ 8 * length marks.old) }
+    ensures { (i : ℕ) → i < length left.now → bit_at marks.new i ≡ not (eqb (get_or left.now i 0) 0) }
 {
-    let mut i: usize = 0;
-    while i < count {
-        let left = ups[i + 1] != 0;
-        if left {
+    for (i, up) in left.iter().enumerate() {
+        let is_left = *up != 0;
+        if is_left {
             marks::mark(marks, i);
         }
-        i += 1;
     }
 }
 
 // Rule 9: marks the records whose chains of parents do not end.
-pub fn mark_endless(p: &[u8], starts: &[u16], heads: &[u16], next: &[u16], marks: &mut [u8])
-    requires { Names p.now starts.now heads.now next.now × Blank marks.old × (length starts.now ≤ 8 * length marks.old) }
-    ensures { (i : ℕ) → suc i < length starts.now → bit_at marks.new i ≡ not (eqb (climb (parent_of p.now (entries_of p.now starts.now)) (length (entries_of p.now starts.now)) (suc i)) 0) }
+pub fn mark_endless(names: &NamedRecords, marks: &mut [u8])
+    requires { Blank marks.old × (length names.now.records.starts.now ≤ 8 * length marks.old) }
+    ensures { (i : ℕ) → suc i < length names.now.records.starts.now → bit_at marks.new i ≡ not (eqb (climb (parent_of names.now.records.pool.now (entries_in names.now.records)) (length (entries_in names.now.records)) (suc i)) 0) }
 {
-    let mut ups = [0u16; 5462];
-    chains(p, starts, heads, next, &mut ups);
-    mark_left(&ups, starts.len() - 1, marks);
+    let mut room = [0u16; LONG_LIST];
+    let ups = &mut room[..names.records.starts.len()];
+    chains(names, ups);
+    mark_left(&ups[1..], marks);
 }
 
 // Whether record i is a device element with the element number of an earlier one. Marks its element number.
-fn repeats_number(p: &[u8], starts: &[u16], i: usize, numbers: &mut [u8]) -> bool
-    requires { (i + 1 < length starts.now) × (65536 ≤ 8 * length numbers.old) × Noted 65536 (element_key p.now (entries_of p.now starts.now)) i numbers.old }
-    ensures { (result ≡ (eqb (kind_at (entries_of p.now starts.now) i) 2 && repeats (element_key p.now (entries_of p.now starts.now)) (element_key p.now (entries_of p.now starts.now) i) i (length (entries_of p.now starts.now)))) × Noted 65536 (element_key p.now (entries_of p.now starts.now)) (i + 1) numbers.new }
+fn repeats_number(records: &RecordList, i: usize, numbers: &mut [u8]) -> bool
+    requires { (i + 1 < length records.now.starts.now) × (65536 ≤ 8 * length numbers.old) × Noted 65536 (element_key records.now.pool.now (entries_in records.now)) i numbers.old }
+    ensures { (result ≡ (eqb (kind_at (entries_in records.now) i) 2 && repeats (element_key records.now.pool.now (entries_in records.now)) (element_key records.now.pool.now (entries_in records.now) i) i (length (entries_in records.now)))) × Noted 65536 (element_key records.now.pool.now (entries_in records.now)) (i + 1) numbers.new }
 {
-    let at = starts[i];
-    if records::view::kind(p, at) != 2 {
-        return false;
+    match records.record_kind(i) {
+        Kind::Det => {
+            let element = views::device_element(records.pool, records.starts[i]);
+            marks::note(numbers, element.number as usize)
+        }
+        _ => false,
     }
-    let element = views::device_element(p, at);
-    marks::note(numbers, element.number as usize)
 }
 
 // Marks the records that repeat an element number, with a list of marks for all element numbers.
-fn mark_numbers(p: &[u8], starts: &[u16], numbers: &mut [u8], marks: &mut [u8])
-    requires { (0 < length starts.now) × (65536 ≤ 8 * length numbers.old) × Blank numbers.old × Blank marks.old × (length starts.now ≤ 8 * length marks.old) }
-    ensures { (i : ℕ) → suc i < length starts.now → kind_at (entries_of p.now starts.now) i ≡ 2 → bit_at marks.new i ≡ repeats (element_key p.now (entries_of p.now starts.now)) (element_key p.now (entries_of p.now starts.now) i) i (length (entries_of p.now starts.now)) }
+fn mark_numbers(records: &RecordList, numbers: &mut [u8], marks: &mut [u8])
+    requires { (65536 ≤ 8 * length numbers.old) × Blank numbers.old × Blank marks.old × (length records.now.starts.now ≤ 8 * length marks.old) }
+    ensures { (i : ℕ) → suc i < length records.now.starts.now → kind_at (entries_in records.now) i ≡ 2 → bit_at marks.new i ≡ repeats (element_key records.now.pool.now (entries_in records.now)) (element_key records.now.pool.now (entries_in records.now) i) i (length (entries_in records.now)) }
 {
-    let count = starts.len() - 1;
-    let mut i: usize = 0;
-    while i < count {
-        if repeats_number(p, starts, i, numbers) {
+    for i in 0..records.starts.len() - 1 {
+        if repeats_number(records, i, numbers) {
             marks::mark(marks, i);
         }
-        i += 1;
     }
 }
 
 // Rule 8: marks the device elements whose element number an earlier one has.
-pub fn mark_repeats(p: &[u8], starts: &[u16], marks: &mut [u8])
-    requires { Divided p.now starts.now × Blank marks.old × (length starts.now ≤ 8 * length marks.old) }
-    ensures { (i : ℕ) → suc i < length starts.now → kind_at (entries_of p.now starts.now) i ≡ 2 → bit_at marks.new i ≡ repeats (element_key p.now (entries_of p.now starts.now)) (element_key p.now (entries_of p.now starts.now) i) i (length (entries_of p.now starts.now)) }
+pub fn mark_repeats(records: &RecordList, marks: &mut [u8])
+    requires { Blank marks.old × (length records.now.starts.now ≤ 8 * length marks.old) }
+    ensures { (i : ℕ) → suc i < length records.now.starts.now → kind_at (entries_in records.now) i ≡ 2 → bit_at marks.new i ≡ repeats (element_key records.now.pool.now (entries_in records.now)) (element_key records.now.pool.now (entries_in records.now) i) i (length (entries_in records.now)) }
 {
     let mut numbers = [0u8; 8192];
-    mark_numbers(p, starts, &mut numbers, marks);
+    mark_numbers(records, &mut numbers, marks);
 }

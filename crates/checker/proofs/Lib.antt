@@ -1,3 +1,3 @@
 -- Laws that are not about a single function.
-pub mod Checked
+pub mod Counting
 pub mod Tables

@@ -1,33 +1,21 @@
 -- Checking a pool: document 01, the paragraph on checking after the rule table. Definitions only.
-use Rattle.std.specs.Prelude.{ℕ, cond, List, map, eqb, length}
-use Rattle.pool.specs.Answer.{Answer, answer}
+use Rattle.std.specs.Prelude.{ℕ, cond, List, Result, Ok, Err, map, eqb, length}
+use Rattle.pool.specs.Answer.{Answer, answer, refusal_answer}
 use Rattle.pool.specs.Reading.{scan_of, entries_in, read_of}
+use Rattle.pool.specs.declared.Refusal.{Refusal}
 use Rattle.faults.specs.Faults.{FaultEntry, entry_for, written}
 use Rattle.rules.specs.Table.{breaches_of}
-use Rattle.checker.specs.declared.Verdict.{Verdict}
-use Rattle.checker.specs.declared.Verdict.TheVariants.{Checked, Empty, TooLong, NoMark, Cut, LengthOver, TooMany, TableShort}
+use Rattle.checker.specs.declared.Checked.{Checked}
 
 -- the number and value of each verdict: 0 and the full count of faults, or reading's refusal and its place
-abbrev pub verdict_of : Verdict → Answer
-verdict_of (Checked records faults) = answer 0 faults
-verdict_of Empty = answer 1 0
-verdict_of TooLong = answer 2 0
-verdict_of (NoMark at) = answer 3 at
-verdict_of (Cut at) = answer 4 at
-verdict_of (LengthOver at) = answer 5 at
-verdict_of TooMany = answer 6 0
-verdict_of (TableShort needed) = answer 7 needed
+abbrev pub verdict_of : Result Checked Refusal → Answer
+verdict_of (Ok checked) = answer 0 checked.faults
+verdict_of (Err refusal) = refusal_answer refusal
 
 -- the count of records in a verdict, 0 for a refusal
-abbrev pub records_in : Verdict → ℕ
-records_in (Checked records faults) = records
-records_in Empty = 0
-records_in TooLong = 0
-records_in (NoMark at) = 0
-records_in (Cut at) = 0
-records_in (LengthOver at) = 0
-records_in TooMany = 0
-records_in (TableShort needed) = 0
+abbrev pub records_in : Result Checked Refusal → ℕ
+records_in (Ok checked) = checked.records
+records_in (Err refusal) = 0
 
 -- checking refuses as reading does, or answers the length of the breach list; room is the number of entries that the table has
 unfoldable pub check_of : List ℕ → ℕ → Answer

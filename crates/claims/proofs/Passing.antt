@@ -5,6 +5,7 @@ use Prim.Native.Nat.{ℕ, zero, suc, ◌+◌, ◌-◌, ◌≤◌, ◌<◌}
 use native.Mathlib.Omega.{arith}
 use lib.ListN.{length, get_or, take, drop, length-append, length-drop, get_or-append}
 use lib.Seq.{get_or-append-add, take_at, take-append-le, drop-append-le, drop-append-add}
+use Rattle.std.specs.Prelude.{Some, Result, Err}
 use Rattle.wire.specs.Parts.{joined}
 use Rattle.wire.specs.Bytes.{le_of, number_in}
 use Rattle.records.specs.Layout.{mark, layout, mark_code, mark_of, three}
@@ -12,9 +13,8 @@ use Rattle.records.specs.Extents.{extent_of}
 use Rattle.records.specs.Places.{field_at, id_of, parent_id_of}
 use Rattle.records.specs.declared.Kind.{Kind}
 use Rattle.records.specs.declared.Kind.TheVariants.{Dvc, Det, Dpd, Dpt, Dvp}
-use Rattle.records.specs.declared.Mark.TheVariants.{Of}
-use Rattle.records.specs.declared.Extent.{Extent}
-use Rattle.records.specs.declared.Extent.TheVariants.{NoMark, Cut, LengthOver}
+use Rattle.records.specs.declared.Flaw.{Flaw}
+use Rattle.records.specs.declared.Flaw.TheVariants.{NoMark, Cut, LengthOver}
 use Rattle.records.proofs.Range.{parent-within}
 use Rattle.division.specs.Whole.{Whole}
 use Rattle.division.specs.Division.{AllWhole}
@@ -28,7 +28,7 @@ use Rattle.claims.specs.Reads.{parent_in, whole_entry, listed, Bad, Bad.unmarked
 
 -- ---- the entry of a whole record behind other bytes
 module _ (r pre post : List ℕ) (w : Whole r) where
-  kind-behind : mark_of (three (pre ++ (r ++ post)) (length pre)) ≡ Of w.kind
+  kind-behind : mark_of (three (pre ++ (r ++ post)) (length pre)) ≡ Some w.kind
   kind-behind =
       let m : List ℕ = mark w.kind in
       rw (three-behind pre (r ++ post) (omega (arith, shortest r w, length-append r post)), w.marked, append_assoc, take_at m (w.body ++ post) 3 (mark-length w.kind))
@@ -48,7 +48,7 @@ module _ (r pre post : List ℕ) (w : Whole r) where
       p : List ℕ
       p = pre ++ (r ++ post)
 
-      go : (k : Kind) → mark_of (three p (length pre)) ≡ Of k → parent_id_of p (length pre) ≡ parent_in k r
+      go : (k : Kind) → mark_of (three p (length pre)) ≡ Some k → parent_id_of p (length pre) ≡ parent_in k r
       go Dvc m = rw m
       go Det m =
           let six : length pre + 3 + 2 + 1 ≡ length pre + 6 = omega arith in
@@ -122,7 +122,7 @@ abbrev Stops : List ℕ → ℕ → ℕ → Type 0
 Stops s number offset = Walked s (λ at. refused (answer number (at + offset)))
 
 -- so does an extent that the walk refuses
-stopped : (s : List ℕ) (x : ℕ → Extent) (number q : ℕ) → 0 < length s
+stopped : (s : List ℕ) (x : ℕ → Result ℕ Flaw) (number q : ℕ) → 0 < length s
     → ((front : List ℕ) → extent_of (front ++ s) (length front) ≡ x (length front))
     → ((rest : ℕ → Scan) (p : List ℕ) (at : ℕ) → turn rest p at (x at) ≡ refused (answer number (at + q))) → Stops s number q
 stopped s x number q some law due front zero h = absurd (omega arith)
@@ -134,13 +134,13 @@ stopped s x number q some law due front (suc turns) h =
 
 bad-stops : (s : List ℕ) (number offset : ℕ) → Bad s number offset → Stops s number offset
 bad-stops s number offset (bad-mark u) =
-    stopped s (λ at. NoMark) 3 0 (omega (arith, u.three)) (λ front. unmarked-refused s front u) (λ rest p at. ap (λ (n : ℕ). refused (answer 3 n)) (omega arith))
+    stopped s (λ at. Err NoMark) 3 0 (omega (arith, u.three)) (λ front. unmarked-refused s front u) (λ rest p at. ap (λ (n : ℕ). refused (answer 3 n)) (omega arith))
 bad-stops s number offset (bad-cut some c) =
-    stopped s (λ at. Cut) 4 0 some (λ front. cut-refused s front c) (λ rest p at. ap (λ (n : ℕ). refused (answer 4 n)) (omega arith))
+    stopped s (λ at. Err Cut) 4 0 some (λ front. cut-refused s front c) (λ rest p at. ap (λ (n : ℕ). refused (answer 4 n)) (omega arith))
 bad-stops s number offset (bad-over w) =
     let k : List ℕ = mark w.kind in
     let l : length s ≡ length k + length (w.bytes ++ (w.over ∷ w.rest)) = ap length w.stands ∙ length-append k (w.bytes ++ (w.over ∷ w.rest)) in
-    stopped s (λ at. LengthOver (at + offset)) 5 offset (omega (arith, mark-length w.kind)) (λ front. over-refused s front offset w) (λ rest p at. refl)
+    stopped s (λ at. Err (LengthOver (at + offset))) 5 offset (omega (arith, mark-length w.kind)) (λ front. over-refused s front offset w) (λ rest p at. refl)
 
 pub scan-bad : (p : List ℕ) (number place : ℕ) → Earliest p number place → scan_of p ≡ refused (answer number place)
 unfolding scan_of

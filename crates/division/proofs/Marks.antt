@@ -8,14 +8,12 @@ use borrow.Author.Tests.{eqb-true}
 use lib.Dec.{eqb}
 use lib.ListN.{length, take, length-append}
 use lib.Seq.{get_or-append_seam, get_or-append-add, take_at}
+use Rattle.std.specs.Prelude.{Option, Some, None, Ok}
 use Rattle.wire.proofs.Either.{both}
 use Rattle.records.specs.Layout.{mark, same, mark_of, three, layout}
 use Rattle.records.specs.Extents.{extent_of, fields_end, marked_end}
 use Rattle.records.specs.declared.Kind.{Kind}
 use Rattle.records.specs.declared.Kind.TheVariants.{Dvc, Det, Dpd, Dpt, Dvp}
-use Rattle.records.specs.declared.Mark.{Mark}
-use Rattle.records.specs.declared.Mark.TheVariants.{Of, Unknown}
-use Rattle.records.specs.declared.Extent.TheVariants.{Ends}
 use Rattle.records.proofs.Ends.{mark-whole}
 
 pub mark-length : (k : Kind) → length (mark k) ≡ 3
@@ -35,7 +33,7 @@ same-equal (x ∷ s) (y ∷ t) e =
     let h = both (eqb x y) (same s t) e in
     ap₂ (λ (n : ℕ) (l : List ℕ). n ∷ l) (eqb-true x y h.0) (same-equal s t h.1)
 
-pub mark-of : (k : Kind) → mark_of (mark k) ≡ Of k
+pub mark-of : (k : Kind) → mark_of (mark k) ≡ Some k
 unfolding mark_of mark
 mark-of Dvc = refl
 mark-of Det = refl
@@ -44,35 +42,35 @@ mark-of Dpt = refl
 mark-of Dvp = refl
 
 -- what a mark says of the bytes it was told from
-abbrev Says : List ℕ → Mark → Type 0
-Says s (Of k) = s ≡ mark k
-Says s Unknown = Unit {0}
+abbrev Says : List ℕ → Option Kind → Type 0
+Says s (Some k) = s ≡ mark k
+Says s None = Unit {0}
 
 mark-says : (s : List ℕ) → Says s (mark_of s)
 unfolding mark_of
-mark-says s = (test Dvc (test Det (test Dpd (test Dpt (test Dvp (Unknown, tt)))))).1
+mark-says s = (test Dvc (test Det (test Dpd (test Dpt (test Dvp (None, tt)))))).1
   where
-    test : Kind → (m : Mark) × Says s m → (m : Mark) × Says s m
-    test k h = (cond (same s (mark k)) (Of k) h.0, go (same s (mark k)) refl)
+    test : Kind → (m : Option Kind) × Says s m → (m : Option Kind) × Says s m
+    test k h = (cond (same s (mark k)) (Some k) h.0, go (same s (mark k)) refl)
       where
-        go : (b : Bool) → same s (mark k) ≡ b → Says s (cond b (Of k) h.0)
+        go : (b : Bool) → same s (mark k) ≡ b → Says s (cond b (Some k) h.0)
         go true e = same-equal s (mark k) e
         go false e = h.1
 
 -- bytes are the mark of a kind, or of none
 pub data Marked (s : List ℕ) : Type 0 where
   of : (k : Kind) → s ≡ mark k → Marked s
-  of_none : ((k : Kind) → s ≡ mark k → ⊥) → mark_of s ≡ Unknown → Marked s
+  of_none : ((k : Kind) → s ≡ mark k → ⊥) → mark_of s ≡ None → Marked s
 
 pub marked : (s : List ℕ) → Marked s
 marked s = go (mark_of s) refl
   where
-    go : (m : Mark) → mark_of s ≡ m → Marked s
-    go (Of k) e = of k (subst (Says s) e (mark-says s))
-    go Unknown e =
+    go : (m : Option Kind) → mark_of s ≡ m → Marked s
+    go (Some k) e = of k (subst (Says s) e (mark-says s))
+    go None e =
         of_none
         (λ k q.
-        let z : Of k ≡ Unknown = sym (mark-of k) ∙ sym (ap mark_of q) ∙ e in
+        let z : ◌≡◌ {A = Option Kind} (Some k) None = sym (mark-of k) ∙ sym (ap mark_of q) ∙ e in
         let z' : ◌≡◌ {A = ℕ} 0 1 = cc in
         omega arith)
         e
@@ -91,7 +89,7 @@ mark-behind pre s h = mark-whole (pre ++ s) (length pre) (omega (arith, length-a
 
 -- past a mark the fields of its kind are read behind it
 pub past-mark : (k : Kind) (pre s : List ℕ)
-    → extent_of (pre ++ (mark k ++ s)) (length pre) ≡ fields_end (layout k) ((pre ++ mark k) ++ s) (Ends (length (pre ++ mark k)))
+    → extent_of (pre ++ (mark k ++ s)) (length pre) ≡ fields_end (layout k) ((pre ++ mark k) ++ s) (Ok (length (pre ++ mark k)))
 past-mark k pre s =
     let l = mark-length k in
     mark-behind pre (mark k ++ s) (omega (arith, length-append (mark k) s))

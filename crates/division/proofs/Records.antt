@@ -6,11 +6,11 @@ use Prim.Native.Nat.{ℕ, ◌+◌, ◌≤◌}
 use native.Mathlib.Omega.{arith}
 use native.Mathlib.Decide.{dec_le}
 use lib.ListN.{length, take, drop, length-append, take-append-drop}
+use Rattle.std.specs.Prelude.{None, Ok, Err}
 use Rattle.records.specs.Layout.{mark, mark_of, layout}
 use Rattle.records.specs.Extents.{extent_of, marked_end}
 use Rattle.records.specs.declared.Kind.{Kind}
-use Rattle.records.specs.declared.Mark.TheVariants.{Unknown}
-use Rattle.records.specs.declared.Extent.TheVariants.{Ends, NoMark, Cut, LengthOver}
+use Rattle.records.specs.declared.Flaw.TheVariants.{NoMark, Cut, LengthOver}
 use Rattle.records.proofs.Ends.{mark-cut}
 use Rattle.division.specs.Whole.{Fills, Whole}
 use Rattle.division.specs.Bad.{Unmarked, CutShort, OverLimit}
@@ -19,22 +19,22 @@ use Rattle.division.proofs.Runs.{SomeOver, fields-whole, fields-cut, fields-over
 use Rattle.division.proofs.Marks.{Marked, of, of_none, marked, mark-length, mark-behind, past-mark}
 
 -- ---- what is read
-pub whole-ends : (r pre post : List ℕ) → Whole r → extent_of (pre ++ (r ++ post)) (length pre) ≡ Ends (length pre + length r)
+pub whole-ends : (r pre post : List ℕ) → Whole r → extent_of (pre ++ (r ++ post)) (length pre) ≡ Ok (length pre + length r)
 whole-ends r pre post w =
     let m : List ℕ = mark w.kind in
     rw (w.marked, append_assoc)
     (past-mark w.kind pre (w.body ++ post)
     ∙ fields-whole (layout w.kind) w.body (pre ++ m) post w.filled
-    ∙ ap Ends (omega (arith, length-append pre m, length-append m w.body)))
+    ∙ ap Ok (omega (arith, length-append pre m, length-append m w.body)))
 
-pub unmarked-refused : (s pre : List ℕ) → Unmarked s → extent_of (pre ++ s) (length pre) ≡ NoMark
+pub unmarked-refused : (s pre : List ℕ) → Unmarked s → extent_of (pre ++ s) (length pre) ≡ Err NoMark
 unmarked-refused s pre u = mark-behind pre s u.three ∙ ap (λ m. marked_end m (pre ++ s) (length pre + 3)) (go (marked (take 3 s)))
   where
-    go : Marked (take 3 s) → mark_of (take 3 s) ≡ Unknown
+    go : Marked (take 3 s) → mark_of (take 3 s) ≡ None
     go (of k e) = absurd (u.none k e)
     go (of_none n e) = e
 
-pub cut-refused : (s pre : List ℕ) → CutShort s → extent_of (pre ++ s) (length pre) ≡ Cut
+pub cut-refused : (s pre : List ℕ) → CutShort s → extent_of (pre ++ s) (length pre) ≡ Err Cut
 cut-refused s pre (inl l) = mark-cut (pre ++ s) (length pre) (omega (arith, length-append pre s))
 cut-refused s pre (inr c) = go (dec_le 3 (length s))
   where
@@ -44,7 +44,7 @@ cut-refused s pre (inr c) = go (dec_le 3 (length s))
     w : Whole (s ++ m)
     w = c.2
 
-    go : Dec (3 ≤ length s) → extent_of (pre ++ s) (length pre) ≡ Cut
+    go : Dec (3 ≤ length s) → extent_of (pre ++ s) (length pre) ≡ Err Cut
     go (yes h) =
         let k : List ℕ = mark w.kind in
         let n : length k ≡ 3 = mark-length w.kind in
@@ -54,7 +54,7 @@ cut-refused s pre (inr c) = go (dec_le 3 (length s))
         (past-mark w.kind pre t ∙ fields-cut (layout w.kind) t m (pre ++ k) c.1 (subst (Fills (layout w.kind)) e.1 w.filled))
     go (no h) = mark-cut (pre ++ s) (length pre) (omega (arith, length-append pre s))
 
-pub over-refused : (s pre : List ℕ) (place : ℕ) → OverLimit s place → extent_of (pre ++ s) (length pre) ≡ LengthOver (length pre + place)
+pub over-refused : (s pre : List ℕ) (place : ℕ) → OverLimit s place → extent_of (pre ++ s) (length pre) ≡ Err (LengthOver (length pre + place))
 over-refused s pre place w =
     let m : List ℕ = mark w.kind in
     let n : length (pre ++ m) + length w.bytes ≡ length pre + place = omega (arith, length-append pre m, mark-length w.kind) in

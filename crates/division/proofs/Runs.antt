@@ -6,43 +6,37 @@ use native.Mathlib.Nat.{add-zero}
 use native.Mathlib.Omega.{arith}
 use native.Mathlib.Decide.{dec_le}
 use lib.ListN.{length, drop, replicate, length-append, length-drop, length-replicate}
+use Rattle.std.specs.Prelude.{Result, Ok, Err}
 use Rattle.wire.specs.Bytes.{le_of}
 use Rattle.records.specs.Layout.{Field, fixed, text, entries}
 use Rattle.records.specs.Extents.{next, field_end, fields_end}
-use Rattle.records.specs.declared.Extent.{Extent}
-use Rattle.records.specs.declared.Extent.TheVariants.{Ends, Cut, LengthOver}
+use Rattle.records.specs.declared.Flaw.{Flaw}
+use Rattle.records.specs.declared.Flaw.TheVariants.{Cut, LengthOver}
+use Rattle.records.proofs.Range.{stays}
 use Rattle.division.specs.Whole.{Is, Fills}
 use Rattle.division.proofs.Reading.{Reading, whole, cut, wrong, behind, longer-front}
 use Rattle.division.proofs.Fields.{Over, field-whole, field_cut, length_over, field-reading}
 
 -- ---- what is read
-cut-stays : (fs : List Field) (p : List ℕ) → fields_end fs p Cut ≡ Cut
-cut-stays [] p = refl
-cut-stays (f ∷ fs) p = cut-stays fs p
-
-over-stays : (fs : List Field) (p : List ℕ) (at : ℕ) → fields_end fs p (LengthOver at) ≡ LengthOver at
-over-stays [] p at = refl
-over-stays (f ∷ fs) p at = over-stays fs p at
-
-one_by_one : (fs gs : List Field) (p : List ℕ) (e : Extent) → fields_end (fs ++ gs) p e ≡ fields_end gs p (fields_end fs p e)
+one_by_one : (fs gs : List Field) (p : List ℕ) (e : Result ℕ Flaw) → fields_end (fs ++ gs) p e ≡ fields_end gs p (fields_end fs p e)
 one_by_one [] gs p e = refl
 one_by_one (f ∷ fs) gs p e = one_by_one fs gs p (next f p e)
 
 -- past a field that is all there the others are read behind it
 past_one : (f : Field) (fs : List Field) (b pre s : List ℕ) → Is f b
-    → fields_end (f ∷ fs) (pre ++ (b ++ s)) (Ends (length pre)) ≡ fields_end fs ((pre ++ b) ++ s) (Ends (length (pre ++ b)))
+    → fields_end (f ∷ fs) (pre ++ (b ++ s)) (Ok (length pre)) ≡ fields_end fs ((pre ++ b) ++ s) (Ok (length (pre ++ b)))
 past_one f fs b pre s h = rw (field-whole f b pre s h, append_assoc, length-append)
 
 pub fields-whole : (fs : List Field) (b pre post : List ℕ) → Fills fs b
-    → fields_end fs (pre ++ (b ++ post)) (Ends (length pre)) ≡ Ends (length pre + length b)
+    → fields_end fs (pre ++ (b ++ post)) (Ok (length pre)) ≡ Ok (length pre + length b)
 fields-whole [] b pre post h = rw (h, add-zero)
 fields-whole (f ∷ fs) b pre post h =
     let x : List ℕ = h.0 in
     let r : List ℕ = h.1 in
     let ih = fields-whole fs r (pre ++ x) post h.4 in
-    rw (h.2, append_assoc) (past_one f fs x pre (r ++ post) h.3 ∙ ih ∙ ap Ends (omega (arith, length-append pre x, length-append x r)))
+    rw (h.2, append_assoc) (past_one f fs x pre (r ++ post) h.3 ∙ ih ∙ ap Ok (omega (arith, length-append pre x, length-append x r)))
 
-pub fields-cut : (fs : List Field) (s m pre : List ℕ) → 0 < length m → Fills fs (s ++ m) → fields_end fs (pre ++ s) (Ends (length pre)) ≡ Cut
+pub fields-cut : (fs : List Field) (s m pre : List ℕ) → 0 < length m → Fills fs (s ++ m) → fields_end fs (pre ++ s) (Ok (length pre)) ≡ Err Cut
 fields-cut [] s m pre o h = let z : length (s ++ m) ≡ 0 = ap length h in absurd (omega (arith, length-append s m))
 fields-cut (f ∷ fs) s m pre o h = go (dec_le (length x) (length s)) (λ t. fields-cut fs t m (pre ++ x) o)
   where
@@ -52,8 +46,8 @@ fields-cut (f ∷ fs) s m pre o h = go (dec_le (length x) (length s)) (λ t. fie
     r : List ℕ
     r = h.1
 
-    go : Dec (length x ≤ length s) → ((t : List ℕ) → Fills fs (t ++ m) → fields_end fs ((pre ++ x) ++ t) (Ends (length (pre ++ x))) ≡ Cut)
-        → fields_end (f ∷ fs) (pre ++ s) (Ends (length pre)) ≡ Cut
+    go : Dec (length x ≤ length s) → ((t : List ℕ) → Fills fs (t ++ m) → fields_end fs ((pre ++ x) ++ t) (Ok (length (pre ++ x))) ≡ Err Cut)
+        → fields_end (f ∷ fs) (pre ++ s) (Ok (length pre)) ≡ Err Cut
     go (yes l) ih =
         let t : List ℕ = drop (length x) s in
         let e = longer-front x r s m (sym h.2) l in
@@ -62,20 +56,20 @@ fields-cut (f ∷ fs) s m pre o h = go (dec_le (length x) (length s)) (λ t. fie
         let t : List ℕ = drop (length s) x in
         let e = longer-front s m x r h.2 (omega arith) in
         let c = field_cut f s t pre (omega (arith, length-drop (length s) x)) (subst (Is f) e.0 h.3) in
-        rw c (cut-stays fs (pre ++ s))
+        rw c (stays fs (pre ++ s) Cut)
 
 pub fields-over : (before : List Field) (limit : ℕ) (after : List Field) (bytes pre : List ℕ) (over : ℕ) (rest : List ℕ) → Fills before bytes → limit < over
-    → fields_end (before ++ (text limit ∷ after)) (pre ++ (bytes ++ (over ∷ rest))) (Ends (length pre)) ≡ LengthOver (length pre + length bytes)
+    → fields_end (before ++ (text limit ∷ after)) (pre ++ (bytes ++ (over ∷ rest))) (Ok (length pre)) ≡ Err (LengthOver (length pre + length bytes))
 fields-over before limit after bytes pre over rest h o =
     let p : List ℕ = pre ++ (bytes ++ (over ∷ rest)) in
     let e : p ≡ (pre ++ bytes) ++ (over ∷ rest) = sym (append_assoc pre bytes (over ∷ rest)) in
     let l : length (pre ++ bytes) ≡ length pre + length bytes = length-append pre bytes in
-    let c : field_end (text limit) p (length pre + length bytes) ≡ LengthOver (length pre + length bytes) =
+    let c : field_end (text limit) p (length pre + length bytes) ≡ Err (LengthOver (length pre + length bytes)) =
     rw (e, ← l) (length_over limit over rest (pre ++ bytes) o) in
-    one_by_one before (text limit ∷ after) p (Ends (length pre))
+    one_by_one before (text limit ∷ after) p (Ok (length pre))
     ∙ ap (fields_end (text limit ∷ after) p) (fields-whole before bytes pre (over ∷ rest) h)
     ∙ ap (fields_end after p) c
-    ∙ over-stays after p (length pre + length bytes)
+    ∙ stays after p (LengthOver (length pre + length bytes))
 
 -- ---- what the bytes can be
 

@@ -5,12 +5,13 @@ use Prim.Native.Nat.{ℕ, ◌+◌, ◌≤◌}
 use native.Mathlib.Omega.{arith}
 use lib.ListN.{length, take, drop, length-append}
 use lib.Seq.{take_at, drop_at}
+use Rattle.std.specs.Prelude.{Result, Ok}
 use Rattle.wire.specs.Parts.{joined}
 use Rattle.records.specs.Layout.{Field, fixed, text, entries, layout}
 use Rattle.records.specs.Extents.{extent_of}
 use Rattle.records.specs.declared.Kind.{Kind}
 use Rattle.records.specs.declared.Kind.TheVariants.{Dvc, Det, Dpd, Dpt, Dvp}
-use Rattle.records.specs.declared.Extent.TheVariants.{Ends}
+use Rattle.records.specs.declared.Flaw.{Flaw}
 use Rattle.division.specs.Whole.{Is, Fills, Whole}
 use Rattle.division.specs.Division.{AllWhole}
 use Rattle.division.specs.Claims.{Unique, Shortest}
@@ -54,7 +55,7 @@ shortest r w =
 -- ---- whole records at the start of the same bytes are the same
 pub same-front : (r s x y : List ℕ) → Whole r → Whole s → r ++ x ≡ s ++ y → (r ≡ s) × (x ≡ y)
 same-front r s x y v w e =
-    let n : Ends (0 + length r) ≡ Ends (0 + length s) = sym (whole-ends r [] x v) ∙ ap (λ (l : List ℕ). extent_of l 0) e ∙ whole-ends s [] y w in
+    let n : ◌≡◌ {A = Result ℕ Flaw} (Ok (0 + length r)) (Ok (0 + length s)) = sym (whole-ends r [] x v) ∙ ap (λ (l : List ℕ). extent_of l 0) e ∙ whole-ends s [] y w in
     let m : 0 + length r ≡ 0 + length s = cc in
     let l : length s ≡ length r = omega arith in (
       sym (take_at r x (length r) refl) ∙ ap (take (length r)) e ∙ take_at s y (length r) l,

@@ -1,7 +1,7 @@
 -- The claims: a division is unique, and the extent of a record is decided by whole and bad records alone. Definitions only.
-use Rattle.std.specs.Prelude.{ℕ, ◌+◌, ◌≤◌, ◌≡◌, ◌↔◌, List, ◌++◌, length, drop}
+use Rattle.std.specs.Prelude.{ℕ, ◌+◌, ◌≤◌, ◌≡◌, ◌↔◌, List, ◌++◌, length, drop, Ok, Err}
 use Rattle.records.specs.Extents.{extent_of}
-use Rattle.records.specs.declared.Extent.TheVariants.{Ends, NoMark, Cut, LengthOver}
+use Rattle.records.specs.declared.Flaw.TheVariants.{NoMark, Cut, LengthOver}
 use Rattle.division.specs.Whole.{Whole}
 use Rattle.division.specs.Bad.{Unmarked, CutShort, OverLimit}
 use Rattle.division.specs.Division.{Division}
@@ -20,7 +20,7 @@ Begins p at end = (r : List ℕ) × (rest : List ℕ) × (drop at p ≡ r ++ res
 
 -- the record's end, and each refusal, is given exactly if the bytes from its start on are as the definitions say
 pub record Exactly (p : List ℕ) (at : ℕ) : Type 0 where
-  pub ends : (end : ℕ) → (extent_of p at ≡ Ends end) ↔ Begins p at end
-  pub unmarked : (extent_of p at ≡ NoMark) ↔ Unmarked (drop at p)
-  pub cut : (extent_of p at ≡ Cut) ↔ CutShort (drop at p)
-  pub over : (place : ℕ) → (extent_of p at ≡ LengthOver (at + place)) ↔ OverLimit (drop at p) place
+  pub ends : (end : ℕ) → (extent_of p at ≡ Ok end) ↔ Begins p at end
+  pub unmarked : (extent_of p at ≡ Err NoMark) ↔ Unmarked (drop at p)
+  pub cut : (extent_of p at ≡ Err Cut) ↔ CutShort (drop at p)
+  pub over : (place : ℕ) → (extent_of p at ≡ Err (LengthOver (at + place))) ↔ OverLimit (drop at p) place

@@ -1,13 +1,14 @@
 -- The IDs behind written faults. Assumes nothing.
 use mathlib.Core.Path.{◌≡◌, refl, sym, ap, ◌∙◌}
 use mathlib.Core.List.Memᴰ
-use mathlib.Core.List.{List, [], ◌∷◌, ◌++◌, map, append_assoc, Memᴰ}
+use mathlib.Core.List.{List, [], ◌∷◌, ◌++◌, map, append-nil, append_assoc, Memᴰ}
 use mathlib.Core.Logic.{⊎_elim}
-use Prim.Native.Nat.{ℕ, zero, suc, ◌+◌, ◌-◌, ◌*◌, ◌/◌, ◌≤◌, ◌<◌}
+use Prim.Native.Nat.{ℕ, zero, suc, min, ◌+◌, ◌-◌, ◌*◌, ◌/◌, ◌≤◌, ◌<◌}
 use native.Mathlib.Nat.{zero-add, suc-add}
 use native.Mathlib.Omega.{arith}
 use lib.ListN.{length, get_or, set, take, drop, length-append, length-take}
-use lib.Seq.{sets, sets-eq, length-sets, length-take-le, take_all, get_or_at, get_or-set_other}
+use Rattle.std.proofs.lemmas.List.{get_or-take, length-take-le}
+use lib.Seq.{take-append_seam, drop-append_seam, sets, sets-eq, length-sets, get_or_at, get_or-set_other}
 use Rattle.records.specs.Places.{id_of, parent_id_of}
 use Rattle.pool.specs.Reading.{Entry, no_entry}
 use Rattle.pool.specs.Walk.{entries_of}
@@ -88,52 +89,56 @@ take-map f (suc n) (x ∷ fs) = ap (λ (l : List FaultEntry). f x ∷ l) (take-m
 
 module _ (before : List ℕ) (fs : List Fault) where
   -- the faults that fit
-  abbrev fitting : List Fault
-  fitting = take (length before / width) fs
+  abbrev written-faults : List Fault
+  written-faults = take (length before / width) fs
 
-  fits : width * length fitting ≤ length before
+  fits : width * length written-faults ≤ length before
   fits = simp length-take (omega arith)
 
+  -- how long they are
+  written-long-as : (f : Fault → FaultEntry) → length (flat (map f written-faults)) ≡ width * length written-faults
+  written-long-as f = flat-long (map f written-faults) ∙ ap (λ (n : ℕ). width * n) (map-long f written-faults)
+
   -- they are the front of the buffer, whatever is said of them; the rest is as it was
-  fronted : (f : Fault → FaultEntry) → written before (map f fs) ≡ flat (map f fitting) ++ drop (width * length fitting) before
+  fronted : (f : Fault → FaultEntry) → written before (map f fs) ≡ flat (map f written-faults) ++ drop (width * length written-faults) before
   unfolding written
   fronted f =
-      let long : length (flat (map f fitting)) ≡ width * length fitting = flat-long (map f fitting) ∙ ap (λ (n : ℕ). width * n) (map-long f fitting) in
+      let long = written-long-as f in
       ap (λ (l : List FaultEntry). sets before 0 (flat l)) (take-map f (length before / width) fs)
-      ∙ sets-eq (flat (map f fitting)) before 0 (omega (arith, long, fits))
-      ∙ rw (zero-add (length (flat (map f fitting))), long)
-
-  completes : (es : List Entry) → named_from es 0 (length fitting) (written before (map unnamed fs)) ≡ written before (map (entry_for es) fs)
-  completes es =
-      ap (named_from es 0 (length fitting)) (fronted unnamed)
-      ∙ named-behind es fitting [] (drop (width * length fitting) before) 0 refl
-      ∙ sym (fronted (entry_for es))
-
-  -- all of them, or as many as there is room for
-  all_fit : length fs ≤ length before / width → length fitting ≡ length fs
-  all_fit h = ap length (take_all (length before / width) fs h)
-
-  some_fit : length before / width ≤ length fs → length fitting ≡ length before / width
-  some_fit h = length-take-le (length before / width) fs h
+      ∙ sets-eq (flat (map f written-faults)) before 0 (omega (arith, long, fits))
+      ∙ rw (zero-add (length (flat (map f written-faults))), long)
 
 written-long : (before : List ℕ) (es : List FaultEntry) → length (written before es) ≡ length before
 unfolding written
 written-long before es = length-sets before 0 (flat (take (length before / width) es))
 
--- so many of the faults that were found are written
-pub fitting-all : (before : List ℕ) (fs : List Fault) (b : List ℕ) (found : ℕ) → Laid before fs b found → found < length b / width → found ≡ length (take (length before / width) fs)
-fitting-all before fs b found l h =
+-- so many of the faults that were found are written: all of them, or as many as there is room for
+pub fitting : (before : List ℕ) (fs : List Fault) (b : List ℕ) (found : ℕ) → Laid before fs b found → min found (length b / width) ≡ length (written-faults before fs)
+fitting before fs b found l =
     let long : length b ≡ length before = ap length l.0 ∙ written-long before (map unnamed fs) in
-    l.1 ∙ sym (all_fit before fs (omega (arith, long, l.1, h)))
+    let room : length b / width ≡ length before / width = ap (λ (n : ℕ). n / width) long in
+    omega (arith, room, l.1, length-take (length before / width) fs)
 
-pub fitting-some : (before : List ℕ) (fs : List Fault) (b : List ℕ) (found : ℕ) → Laid before fs b found → length b / width ≤ found → length b / width ≡ length (take (length before / width) fs)
-fitting-some before fs b found l h =
-    let long : length b ≡ length before = ap length l.0 ∙ written-long before (map unnamed fs) in
-    ap (λ (n : ℕ). n / width) long ∙ sym (some_fit before fs (omega (arith, long, l.1, h)))
+-- the part of the buffer that holds them, and what is behind it
+pub part-of : (before : List ℕ) (fs : List Fault) (b : List ℕ) (n : ℕ) → b ≡ written before (map unnamed fs) → n ≡ length (written-faults before fs)
+    → (take (n * width) b ≡ flat (map unnamed (written-faults before fs))) × (drop (n * width) b ≡ drop (width * length (written-faults before fs)) before)
+part-of before fs b n l e =
+    let xs = flat (map unnamed (written-faults before fs)) in
+    let ys = drop (width * length (written-faults before fs)) before in
+    let laid : b ≡ xs ++ ys = l ∙ fronted before fs unnamed in
+    let far : n * width ≡ length xs = omega (arith, e, written-long-as before fs unnamed) in
+    rw (laid, far) (take-append_seam xs ys, drop-append_seam xs ys)
 
-pub completed : (es : List Entry) (before : List ℕ) (fs : List Fault) (b : List ℕ) (n : ℕ) → b ≡ written before (map unnamed fs) → n ≡ length (take (length before / width) fs)
-    → named_from es 0 n b ≡ written before (map (entry_for es) fs)
-completed es before fs b n l e = ap (named_from es 0 n) l ∙ ap (λ (k : ℕ). named_from es 0 k (written before (map unnamed fs))) e ∙ completes before fs es
+pub completed : (es : List Entry) (before : List ℕ) (fs : List Fault) (b : List ℕ) (n : ℕ) → b ≡ written before (map unnamed fs) → n ≡ length (written-faults before fs)
+    → named_from es 0 (length (take (n * width) b) / width) (take (n * width) b) ++ drop (n * width) b ≡ written before (map (entry_for es) fs)
+completed es before fs b n l e =
+    let part = part-of before fs b n l e in
+    let ws = written-faults before fs in
+    let many : length (flat (map unnamed ws)) / width ≡ length ws = omega (arith, written-long-as before fs unnamed) in
+    rw (part.0, part.1, many)
+    (ap (λ (xs : List ℕ). named_from es 0 (length ws) xs ++ drop (width * length ws) before) (sym (append-nil (flat (map unnamed ws))))
+    ∙ ap (λ (xs : List ℕ). xs ++ drop (width * length ws) before) (named-behind es ws [] [] 0 refl ∙ append-nil (flat (map (entry_for es) ws)))
+    ∙ sym (fronted before fs (entry_for es)))
 
 -- ---- the records of the faults that a buffer holds
 
@@ -160,6 +165,15 @@ fitting-below limit b found n u e =
       fits = omega (arith, long, e, fits u.before u.faults);
       listed = λ k h. let r = starts_with fs (drop (width * length fs) u.before) k (omega (arith, h, e)) in
           rw (ap (λ (l : List ℕ). get_or l (k * width) 0) (u.laid.0 ∙ fronted u.before u.faults unnamed) ∙ r.2) (u.listed r.0 (in-front (length u.before / width) u.faults r.1));
+    }
+
+-- so can those of the part that holds them
+pub below-in-part : (limit : ℕ) (b : List ℕ) (n : ℕ) → Below limit b n → Below limit (take (n * width) b) (length (take (n * width) b) / width)
+below-in-part limit b n h =
+    let long : length (take (n * width) b) ≡ n * width = length-take-le (n * width) b h.fits in
+    record {
+      fits = omega arith;
+      listed = λ k l. rw (get_or-take (n * width) b (k * width) 0 (omega (arith, long, l))) (h.listed k (omega (arith, long, l)));
     }
 
 -- two IDs that are written leave the faults' records as they are

@@ -3,3 +3,4 @@ pub mod Emission
 pub mod Order
 pub mod Clearing
 pub mod Completing
+pub mod Adding

@@ -2,4 +2,5 @@
 pub mod Faults
 pub mod Rows
 pub mod Emission
+pub mod Adding
 pub mod Completing

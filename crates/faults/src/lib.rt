@@ -4,46 +4,51 @@
 
 mod objects;
 
-ghost use Rattle.std.specs.Prelude.{◌+◌, ◌≤◌, ◌<◌, ◌^◌, true, [], ◌∷◌};
+ghost use Rattle.std.specs.Prelude.{◌≡◌, ◌+◌, ◌≤◌, ◌<◌, ◌^◌, true, [], ◌∷◌};
 ghost use Rattle.faults.specs.Faults.{fault};
 ghost use Rattle.faults.specs.Rows.{one, if_so};
-ghost use Rattle.faults.specs.Emission.{Emits, Puts};
+ghost use Rattle.faults.specs.Emission.{Emits};
+ghost use Rattle.faults.specs.Adding.{Adds};
 
 pub use objects::name_objects;
 
 // How many numbers a fault takes in a buffer.
 pub const WIDTH: usize = 5;
 
-// Counts a fault, and writes it if it fits: its three numbers, and zeros in the place of the two IDs.
-fn put(buffer: &mut [u16], count: usize, number: u16, rule: u16, item: u16) -> usize
-    requires { count < 2 ^ 48 }
-    ensures { Emits buffer.old count (if_so true (fault number rule item)) buffer.new result × (result ≤ count + 1) }
-{
-    let i = count * WIDTH;
-    if i + WIDTH <= buffer.len() {
-        buffer[i] = number;
-        buffer[i + 1] = rule;
-        buffer[i + 2] = item;
-        buffer[i + 3] = 0;
-        buffer[i + 4] = 0;
-    }
-    count + 1
+// The faults that a check has found so far: how many, and the buffer that holds the first of them. The number of a fault's record is no
+// part of it, since the functions that put faults would then have to promise besides that they leave it. That the count is below a bound
+// is asked by each of them and no ghost fact, since it grows from call to call.
+#[derive(Drop)]
+pub struct FaultList<'a> {
+    pub buffer: &'a mut [u16],
+    pub count: usize,
 }
 
-// The same if there is a breach; else nothing changes.
-pub fn put_if(
-    breach: bool,
-    buffer: &mut [u16],
-    count: usize,
-    number: u16,
-    rule: u16,
-    item: u16,
-) -> usize
-    requires { count < 2 ^ 48 }
-    ensures { Puts number (one rule item breach ∷ []) buffer.old count buffer.new result × (result ≤ count + 1) }
-{
-    if breach {
-        return put(buffer, count, number, rule, item);
+impl FaultList<'_> {
+    // Counts a fault, and writes it if it fits: its three numbers, and zeros in the place of the two IDs.
+    fn put(&mut self, number: u16, rule: u16, item: u16)
+        requires { self.old.count < 2 ^ 48 }
+        ensures { (self.new.buffer.ghost_name ≡ self.old.buffer.ghost_name) × Emits self.old.buffer.now self.old.count (if_so true (fault number rule item)) self.new.buffer.now self.new.count × (self.new.count ≤ self.old.count + 1) }
+    {
+        // The five numbers are stored one by one: an array of them, made only to be copied, reads no plainer.
+        let i = self.count * WIDTH;
+        if i + WIDTH <= self.buffer.len() {
+            self.buffer[i] = number;
+            self.buffer[i + 1] = rule;
+            self.buffer[i + 2] = item;
+            self.buffer[i + 3] = 0;
+            self.buffer[i + 4] = 0;
+        }
+        self.count += 1;
     }
-    count
+
+    // The same if there is a breach; else nothing changes.
+    pub fn put_if(&mut self, breach: bool, number: u16, rule: u16, item: u16)
+        requires { self.old.count < 2 ^ 48 }
+        ensures { Adds number (one rule item breach ∷ []) 1 self.old self.new }
+    {
+        if breach {
+            self.put(number, rule, item);
+        }
+    }
 }

@@ -4,11 +4,24 @@
 pub mod whole;
 
 ghost use Rattle.std.specs.Prelude.{◌≡◌, not, ◌&&◌, ◌||◌, [], ◌∷◌, ◌+◌, ◌≤◌, ◌<◌, ◌^◌, eqb, ltb, leb};
+ghost use Rattle.records.specs.Layout.{kind_code, mark_code};
 ghost use Rattle.faults.specs.Rows.{many};
-ghost use Rattle.faults.specs.Emission.{Puts};
+ghost use Rattle.faults.specs.Adding.{Adds};
 ghost use Rattle.rules.specs.Table.{unsound, bad_label, bad_scale, bad_source, bad_own, is_wrong_kind, own_rows, device_rows, field_rows, presentation_rows, data_rows, property_rows, value_rows};
 
-use records::{Device, DeviceElement, ProcessData, Property, Span, ValuePresentation};
+use faults::FaultList;
+use records::{Device, DeviceElement, Kind, ProcessData, Property, Span, ValuePresentation};
+
+// An element number has twelve bits.
+const MAX_NUMBER: u16 = 4095;
+
+// Process data has the properties of bits 0 to 2 and the trigger methods of bits 0 to 4.
+const MAX_PROPERTIES: u8 = 7;
+
+const MAX_TRIGGERS: u8 = 31;
+
+// The decimals of a value presentation.
+const MAX_DECIMALS: u8 = 7;
 
 fn is_unsound(p: &[u8], s: Span) -> bool
     ensures { result ≡ unsound p.now s }
@@ -17,22 +30,22 @@ fn is_unsound(p: &[u8], s: Span) -> bool
 }
 
 // Rule 1: a device has the ID 0, and no other record has 0 or 65535.
-pub fn is_bad_id(kind: u16, id: u16) -> bool
-    ensures { result ≡ bad_own kind id }
+pub fn is_bad_id(kind: Kind, id: u16) -> bool
+    ensures { result ≡ bad_own (kind_code kind) id }
 {
-    if kind == 1 {
-        return id != 0;
+    match kind {
+        Kind::Dvc => id != 0,
+        _ => (id == 0) | (id == 65535),
     }
-    (id == 0) | (id == 65535)
 }
 
 // Rules 1 and 2.
-pub fn put_own(bad: bool, again: bool, number: u16, faults: &mut [u16], count: usize) -> usize
-    requires { count < 2 ^ 40 }
-    ensures { Puts number (own_rows bad again) faults.old count faults.new result × (result ≤ count + 2) }
+pub fn put_own(bad: bool, again: bool, number: u16, faults: &mut FaultList)
+    requires { faults.old.count < 2 ^ 40 }
+    ensures { Adds number (own_rows bad again) 2 faults.old faults.new }
 {
-    let n = faults::put_if(bad, faults, count, number, 1, 1);
-    faults::put_if(again, faults, n, number, 2, 1)
+    faults.put_if(bad, number, 1, 1);
+    faults.put_if(again, number, 2, 1);
 }
 
 // Whether one of a device's fourteen label bytes breaks rule 5.
@@ -48,36 +61,25 @@ fn is_bad_label(p: &[u8], at: usize, j: usize) -> bool
 }
 
 // Rule 5 of a device: the localization label follows the structure label.
-fn put_labels(p: &[u8], at: usize, number: u16, faults: &mut [u16], count: usize) -> usize
-    requires { (at < 2 ^ 20) × (count < 2 ^ 41) }
-    ensures { Puts number (many 5 1 14 (bad_label p.now at) ∷ []) faults.old count faults.new result × (result ≤ count + 14) }
+fn put_labels(p: &[u8], at: usize, number: u16, faults: &mut FaultList)
+    requires { (at < 2 ^ 20) × (faults.old.count < 2 ^ 41) }
+    ensures { Adds number (many 5 1 14 (bad_label p.now at) ∷ []) 14 faults.old faults.new }
 {
-    let mut n = count;
-    let mut j: usize = 0;
-    while j < 14 {
-        n = faults::put_if(is_bad_label(p, at, j), faults, n, number, 5, (1 + j) as u16);
-        j += 1;
+    for j in 0..14 {
+        faults.put_if(is_bad_label(p, at, j), number, 5, (1 + j) as u16);
     }
-    n
 }
 
 // Rules 3 to 5 of a device.
-pub fn put_device(
-    p: &[u8],
-    d: Device,
-    again: bool,
-    number: u16,
-    faults: &mut [u16],
-    count: usize,
-) -> usize
-    requires { (d.structure.from < 2 ^ 20) × (count < 2 ^ 40) }
-    ensures { Puts number (device_rows p.now again d) faults.old count faults.new result × (result ≤ count + 18) }
+pub fn put_device(p: &[u8], d: Device, again: bool, number: u16, faults: &mut FaultList)
+    requires { (d.structure.from < 2 ^ 20) × (faults.old.count < 2 ^ 40) }
+    ensures { Adds number (device_rows p.now again d) 18 faults.old faults.new }
 {
-    let n3 = faults::put_if(again, faults, count, number, 3, 1);
-    let n4 = faults::put_if(is_unsound(p, d.designator), faults, n3, number, 4, 1);
-    let n5 = faults::put_if(is_unsound(p, d.version), faults, n4, number, 4, 2);
-    let n6 = faults::put_if(is_unsound(p, d.serial), faults, n5, number, 4, 3);
-    put_labels(p, d.structure.from, number, faults, n6)
+    faults.put_if(again, number, 3, 1);
+    faults.put_if(is_unsound(p, d.designator), number, 4, 1);
+    faults.put_if(is_unsound(p, d.version), number, 4, 2);
+    faults.put_if(is_unsound(p, d.serial), number, 4, 3);
+    put_labels(p, d.structure.from, number, faults);
 }
 
 fn is_bad_type(t: u8) -> bool
@@ -86,41 +88,21 @@ fn is_bad_type(t: u8) -> bool
     !((1 <= t) & (t <= 7))
 }
 
-// Whether an element number does not fit into twelve bits.
-fn is_bad_number(x: u16) -> bool
-    ensures { result ≡ ltb 4095 x }
-{
-    4095 < x
-}
-
 // Whether a device element keeps rule 5.
 pub fn is_fit_element(e: DeviceElement) -> bool
     ensures { result ≡ not (not (leb 1 e.element_type && leb e.element_type 7) || ltb 4095 e.number) }
 {
-    !(is_bad_type(e.element_type) | is_bad_number(e.number))
+    !(is_bad_type(e.element_type) | (MAX_NUMBER < e.number))
 }
 
 // Rules 4 and 5 of a device element.
-pub fn put_fields(
-    p: &[u8],
-    e: DeviceElement,
-    number: u16,
-    faults: &mut [u16],
-    count: usize,
-) -> usize
-    requires { count < 2 ^ 40 }
-    ensures { Puts number (field_rows p.now e) faults.old count faults.new result × (result ≤ count + 3) }
+pub fn put_fields(p: &[u8], e: DeviceElement, number: u16, faults: &mut FaultList)
+    requires { faults.old.count < 2 ^ 40 }
+    ensures { Adds number (field_rows p.now e) 3 faults.old faults.new }
 {
-    let n4 = faults::put_if(is_unsound(p, e.designator), faults, count, number, 4, 1);
-    let n5 = faults::put_if(is_bad_type(e.element_type), faults, n4, number, 5, 1);
-    faults::put_if(is_bad_number(e.number), faults, n5, number, 5, 2)
-}
-
-// Whether a property bit above bit 2 is set.
-fn is_bad_properties(x: u8) -> bool
-    ensures { result ≡ ltb 7 x }
-{
-    7 < x
+    faults.put_if(is_unsound(p, e.designator), number, 4, 1);
+    faults.put_if(is_bad_type(e.element_type), number, 5, 1);
+    faults.put_if(MAX_NUMBER < e.number, number, 5, 2);
 }
 
 // Whether bits 1 and 2 of the properties, settable and control source, are both set.
@@ -130,37 +112,30 @@ fn is_bad_source(properties: u8) -> bool
     properties / 2 % 4 == 3
 }
 
-// Whether a trigger bit above bit 4 is set.
-fn is_bad_triggers(x: u8) -> bool
-    ensures { result ≡ ltb 31 x }
-{
-    31 < x
-}
-
 // Whether process data keeps rule 5.
 pub fn is_fit_data(d: ProcessData) -> bool
     ensures { result ≡ not (ltb 7 d.properties || bad_source d.properties || ltb 31 d.triggers) }
 {
-    !((is_bad_properties(d.properties) | is_bad_source(d.properties)) | is_bad_triggers(d.triggers))
+    !(((MAX_PROPERTIES < d.properties) | is_bad_source(d.properties)) | (MAX_TRIGGERS < d.triggers))
 }
 
 // Rules 4 and 5 of process data.
-pub fn put_data(p: &[u8], d: ProcessData, number: u16, faults: &mut [u16], count: usize) -> usize
-    requires { count < 2 ^ 40 }
-    ensures { Puts number (data_rows p.now d) faults.old count faults.new result × (result ≤ count + 4) }
+pub fn put_data(p: &[u8], d: ProcessData, number: u16, faults: &mut FaultList)
+    requires { faults.old.count < 2 ^ 40 }
+    ensures { Adds number (data_rows p.now d) 4 faults.old faults.new }
 {
-    let n4 = faults::put_if(is_unsound(p, d.designator), faults, count, number, 4, 1);
-    let n5 = faults::put_if(is_bad_properties(d.properties), faults, n4, number, 5, 1);
-    let n6 = faults::put_if(is_bad_source(d.properties), faults, n5, number, 5, 2);
-    faults::put_if(is_bad_triggers(d.triggers), faults, n6, number, 5, 3)
+    faults.put_if(is_unsound(p, d.designator), number, 4, 1);
+    faults.put_if(MAX_PROPERTIES < d.properties, number, 5, 1);
+    faults.put_if(is_bad_source(d.properties), number, 5, 2);
+    faults.put_if(MAX_TRIGGERS < d.triggers, number, 5, 3);
 }
 
 // Rule 4 of a property.
-pub fn put_property(p: &[u8], d: Property, number: u16, faults: &mut [u16], count: usize) -> usize
-    requires { count < 2 ^ 40 }
-    ensures { Puts number (property_rows p.now d) faults.old count faults.new result × (result ≤ count + 1) }
+pub fn put_property(p: &[u8], d: Property, number: u16, faults: &mut FaultList)
+    requires { faults.old.count < 2 ^ 40 }
+    ensures { Adds number (property_rows p.now d) 1 faults.old faults.new }
 {
-    faults::put_if(is_unsound(p, d.designator), faults, count, number, 4, 1)
+    faults.put_if(is_unsound(p, d.designator), number, 4, 1);
 }
 
 // The scale is judged by its bits: no NaN is within the range.
@@ -170,33 +145,21 @@ fn is_bad_scale(bits: u32) -> bool
     (bits < 0x322BCC77) | (0x4CBEBC20 < bits)
 }
 
-fn is_bad_decimals(x: u8) -> bool
-    ensures { result ≡ ltb 7 x }
-{
-    7 < x
-}
-
 // Whether a value presentation keeps rule 5.
 pub fn is_fit_value(v: ValuePresentation) -> bool
     ensures { result ≡ not (bad_scale v.scale || ltb 7 v.decimals) }
 {
-    !(is_bad_scale(v.scale) | is_bad_decimals(v.decimals))
+    !(is_bad_scale(v.scale) | (MAX_DECIMALS < v.decimals))
 }
 
 // Rules 4 and 5 of a value presentation.
-pub fn put_value(
-    p: &[u8],
-    v: ValuePresentation,
-    number: u16,
-    faults: &mut [u16],
-    count: usize,
-) -> usize
-    requires { count < 2 ^ 40 }
-    ensures { Puts number (value_rows p.now v) faults.old count faults.new result × (result ≤ count + 3) }
+pub fn put_value(p: &[u8], v: ValuePresentation, number: u16, faults: &mut FaultList)
+    requires { faults.old.count < 2 ^ 40 }
+    ensures { Adds number (value_rows p.now v) 3 faults.old faults.new }
 {
-    let n4 = faults::put_if(is_unsound(p, v.unit), faults, count, number, 4, 1);
-    let n5 = faults::put_if(is_bad_scale(v.scale), faults, n4, number, 5, 1);
-    faults::put_if(is_bad_decimals(v.decimals), faults, n5, number, 5, 2)
+    faults.put_if(is_unsound(p, v.unit), number, 4, 1);
+    faults.put_if(is_bad_scale(v.scale), number, 5, 1);
+    faults.put_if(MAX_DECIMALS < v.decimals, number, 5, 2);
 }
 
 // Whether the ID of a presentation names no record. 65535 means that there is no presentation.
@@ -212,18 +175,24 @@ fn is_wrong(right: bool, named: u16) -> bool
     (named != 0) & !right
 }
 
+fn is_presentation(kind: Option<Kind>) -> bool
+    ensures { result ≡ eqb (mark_code kind) 5 }
+{
+    matches!(kind, Some(Kind::Dvp))
+}
+
 // Rules 6 and 7 of a presentation's ID, by the number of the record that it names and that record's kind.
 pub fn put_presentation(
     id: u16,
     named: u16,
-    kind: u16,
+    kind: Option<Kind>,
     number: u16,
-    faults: &mut [u16],
-    count: usize,
-) -> usize
-    requires { count < 2 ^ 41 }
-    ensures { Puts number (presentation_rows id named kind) faults.old count faults.new result × (result ≤ count + 2) }
+    faults: &mut FaultList,
+)
+    requires { faults.old.count < 2 ^ 41 }
+    ensures { Adds number (presentation_rows id named (mark_code kind)) 2 faults.old faults.new }
 {
-    let n6 = faults::put_if(is_missing(id, named), faults, count, number, 6, 1);
-    faults::put_if(is_wrong(kind == 5, named), faults, n6, number, 7, 1)
+    faults.put_if(is_missing(id, named), number, 6, 1);
+    let wrong = is_wrong(is_presentation(kind), named);
+    faults.put_if(wrong, number, 7, 1);
 }

@@ -2,7 +2,8 @@
 use mathlib.Core.Path.{◌≡◌, sym, ap, ◌∙◌}
 use mathlib.Core.Bool.{true, false}
 use mathlib.Core.List.{List}
-use Prim.Native.Nat.{ℕ, ◌-◌, ◌<◌}
+use Prim.Native.Nat.{ℕ, suc, ◌<◌}
+use native.Mathlib.Omega.{arith}
 use borrow.Author.Tests.{ne_eqb}
 use lib.IntN.{ℤ}
 use lib.ListN.{length, get_or}
@@ -10,11 +11,11 @@ use Rattle.records.specs.Layout.{mark_code, mark_of, three}
 use Rattle.pool.specs.Reading.{Entry}
 use Rattle.pool.specs.Walk.{entries_of}
 use Rattle.naming.specs.Naming.{kind_of}
-use Rattle.naming.proofs.Starts.{kind-read}
+use Rattle.naming.proofs.Starts.{start-read, kind-is}
 use Rattle.queries.specs.Queries.{start_of}
 use Rattle.messages.specs.Layout.{is_value_carrier}
 use Rattle.judging.specs.Judging.{element_for, object_for, properties_in, triggers_in, error_of_object, error_of}
-use Rattle.judging.proofs.Found.{element-listed, object-listed, start-of}
+use Rattle.judging.proofs.Found.{element-listed, object-listed}
 
 -- ---- the error byte, by the element and the object that have been found
 
@@ -40,38 +41,32 @@ module _ (p : List ℕ) (es : List Entry) (command element ddi : ℕ) (value : �
 
 -- the same, where the element and the object have been found by the starts
 module _ (p starts : List ℕ) (first : 0 < length starts) (command element ddi : ℕ) (value : ℤ) (carries : is_value_carrier command ≡ true)
-    (number : ℕ) (found : number ≡ element_for p (entries_of p starts) element) where
-  pub element-missing : number ≡ 0 → 2 ≡ error_of p (entries_of p starts) command element ddi value
-  element-missing z = no_element p (entries_of p starts) command element ddi value carries (sym found ∙ z)
+    (owner : ℕ) (found : element_for p (entries_of p starts) element ≡ suc owner) where
+  pub element-inside : suc owner < length starts
+  element-inside = rw (← found) (element-listed p starts first element)
 
-  pub element-inside : number < length starts
-  element-inside = rw found (element-listed p starts first element)
+  there : element_for p (entries_of p starts) element ≡ 0 → ⊥
+  there z = omega (arith, z, found)
 
-  module _ (some : number ≡ 0 → ⊥) (object : ℕ) (is : object ≡ object_for p (entries_of p starts) (get_or starts (number - 1) 0) ddi) where
-    object-is : object ≡ object_for p (entries_of p starts) (start_of (entries_of p starts) (element_for p (entries_of p starts) element)) ddi
-    object-is =
-        is
-        ∙ ap (λ (a : ℕ). object_for p (entries_of p starts) a ddi)
-        (start-of p starts number some element-inside ∙ ap (start_of (entries_of p starts)) found)
+  owner-start : get_or starts owner 0 ≡ start_of (entries_of p starts) (element_for p (entries_of p starts) element)
+  owner-start = start-read p starts owner element-inside ∙ ap (start_of (entries_of p starts)) (sym found)
 
-    there : element_for p (entries_of p starts) element ≡ 0 → ⊥
-    there z = some (found ∙ z)
+  pub object-missing : object_for p (entries_of p starts) (get_or starts owner 0) ddi ≡ 0 → 4 ≡ error_of p (entries_of p starts) command element ddi value
+  object-missing z = no_object p (entries_of p starts) command element ddi value carries there (ap (λ (a : ℕ). object_for p (entries_of p starts) a ddi) (sym owner-start) ∙ z)
 
-    pub object-inside : object < length starts
-    object-inside = rw is (object-listed p starts first (get_or starts (number - 1) 0) ddi)
+  module _ (object : ℕ) (is : object_for p (entries_of p starts) (get_or starts owner 0) ddi ≡ suc object) where
+    pub object-inside : suc object < length starts
+    object-inside = rw (← is) (object-listed p starts first (get_or starts owner 0) ddi)
 
-    pub object-missing : object ≡ 0 → 4 ≡ error_of p (entries_of p starts) command element ddi value
-    object-missing z = no_object p (entries_of p starts) command element ddi value carries there (sym object-is ∙ z)
-
-    pub object-found : (object ≡ 0 → ⊥) → (kind properties triggers error : ℕ) → kind ≡ mark_code (mark_of (three p (get_or starts (object - 1) 0)))
-        → properties ≡ properties_in p kind (get_or starts (object - 1) 0) → triggers ≡ triggers_in p kind (get_or starts (object - 1) 0)
+    pub object-found : (kind properties triggers error : ℕ) → kind ≡ mark_code (mark_of (three p (get_or starts object 0)))
+        → properties ≡ properties_in p kind (get_or starts object 0) → triggers ≡ triggers_in p kind (get_or starts object 0)
         → error ≡ error_of_object properties triggers command value → error ≡ error_of p (entries_of p starts) command element ddi value
-    object-found h kind properties triggers error k a b e =
+    object-found kind properties triggers error k a b e =
         let es = entries_of p starts in
-        let start = get_or starts (object - 1) 0 in
-        let k' : kind ≡ kind_of es object = k ∙ kind-read p starts object h object-inside in
-        let s' : start ≡ start_of es object = start-of p starts object h object-inside in
+        let start = get_or starts object 0 in
+        let k' : kind ≡ kind_of es (suc object) = k ∙ kind-is p starts object object-inside in
+        let s' : start ≡ start_of es (suc object) = start-read p starts object object-inside in
         e
-        ∙ ap (λ (x : ℕ). error_of_object x triggers command value) (a ∙ ap (λ (x : ℕ). properties_in p x start) k' ∙ ap (properties_in p (kind_of es object)) s')
-        ∙ ap (λ (x : ℕ). error_of_object (properties_in p (kind_of es object) (start_of es object)) x command value) (b ∙ ap (λ (x : ℕ). triggers_in p x start) k' ∙ ap (triggers_in p (kind_of es object)) s')
-        ∙ of-object p es command element ddi value carries there object object-is h
+        ∙ ap (λ (x : ℕ). error_of_object x triggers command value) (a ∙ ap (λ (x : ℕ). properties_in p x start) k' ∙ ap (properties_in p (kind_of es (suc object))) s')
+        ∙ ap (λ (x : ℕ). error_of_object (properties_in p (kind_of es (suc object)) (start_of es (suc object))) x command value) (b ∙ ap (λ (x : ℕ). triggers_in p x start) k' ∙ ap (triggers_in p (kind_of es (suc object))) s')
+        ∙ of-object p es command element ddi value carries there (suc object) (sym is ∙ ap (λ (x : ℕ). object_for p es x ddi) owner-start) (λ (z : suc object ≡ 0). omega (arith, z))

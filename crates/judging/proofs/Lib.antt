@@ -1,4 +1,5 @@
 -- Laws that are not about a single function.
+pub mod Mapped
 pub mod Found
 pub mod Erring
 pub mod Verdict

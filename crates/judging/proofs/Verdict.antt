@@ -1,5 +1,5 @@
 -- What a judgement by the records of a pool means for the pool. Assumes nothing.
-use mathlib.Core.Path.{◌≡◌, refl, sym, ap}
+use mathlib.Core.Path.{◌≡◌, refl, sym, ap, ◌∙◌}
 use mathlib.Core.Bool.{cond}
 use mathlib.Core.List.{List}
 use Prim.Native.Nat.{ℕ, ◌+◌, ◌≤◌, ◌<◌}
@@ -16,30 +16,31 @@ use Rattle.faults.specs.Emission.{Emits}
 use Rattle.rules.specs.Table.{breaches_in, breaches_of}
 use Rattle.checker.specs.Checking.{check_of, count_of}
 use Rattle.queries.specs.Queries.{refusal_in, acceptance}
-use Rattle.judging.specs.Judging.{error_of, judge_number, judge_error}
-use Rattle.judging.specs.Parts.{JudgedAmong, judged_count}
-use Rattle.judging.specs.declared.Judgement.{Judgement}
+use Rattle.judging.specs.Judging.{error_of, judge_number, judge_error, judge_answer}
+use Rattle.judging.specs.Parts.{judged_among, judged_count}
 
 -- ---- by the records
 
 module _ (p : List ℕ) (es : List Entry) (command element ddi : ℕ) (value : ℤ) (b c : List ℕ) (n : ℕ) (emits : Emits b 0 (breaches_in p es) c n) where
-  pub faulty : (n ≡ 0 → ⊥) → JudgedAmong p es command element ddi value (record { number = 24; error = 0 })
+  pub faulty : (n ≡ 0 → ⊥) → answer 24 0 ≡ judged_among p es command element ddi value
+  unfolding judged_among
   faulty h =
       let some : length (breaches_in p es) ≡ 0 → ⊥ = λ (z : length (breaches_in p es) ≡ 0). h (omega (arith, emits.counted)) in
-      record { number = rw (ne_eqb (length (breaches_in p es)) 0 some); error = rw (ne_eqb (length (breaches_in p es)) 0 some) }
+      rw (ne_eqb (length (breaches_in p es)) 0 some)
 
-  pub clean : n ≡ 0 → (error : ℕ) → error ≡ error_of p es command element ddi value → JudgedAmong p es command element ddi value (record { number = 0; error = error })
+  pub clean : n ≡ 0 → (error : ℕ) → error ≡ error_of p es command element ddi value → answer 0 error ≡ judged_among p es command element ddi value
+  unfolding judged_among
   clean h error e =
       let none : length (breaches_in p es) ≡ 0 = omega (arith, emits.counted) in
-      record { number = rw (eq-eqb (length (breaches_in p es)) 0 none); error = rw (eq-eqb (length (breaches_in p es)) 0 none) e }
+      rw (eq-eqb (length (breaches_in p es)) 0 none) (ap (answer 0) e)
 
 -- ---- by the pool
 
 module _ (p : List ℕ) (room command element ddi : ℕ) (value : ℤ) where
   -- 32, before the pool is looked at
-  pub too_large : 4095 < element → (32 ≡ judge_number p room element) × (0 ≡ judge_error p room command element ddi value) × (0 ≡ judged_count p room element)
+  pub too_large : 4095 < element → (answer 32 0 ≡ judge_answer p room command element ddi value) × (0 ≡ judged_count p room element)
   unfolding judge_number judge_error judged_count
-  too_large h = rw (lt-ltb 4095 element h) (refl, refl, refl)
+  too_large h = rw (lt-ltb 4095 element h) (refl, refl)
 
   module _ (small : element ≤ 4095) where
     -- reading refuses
@@ -55,9 +56,9 @@ module _ (p : List ℕ) (room command element ddi : ℕ) (value : ℤ) where
       unfolding count_of
       none = rw (← e, ne_eqb number 0 h)
 
-      pub unread : (number ≡ judge_number p room element) × (0 ≡ judge_error p room command element ddi value) × (0 ≡ judged_count p room element)
+      pub unread : (answer number 0 ≡ judge_answer p room command element ddi value) × (0 ≡ judged_count p room element)
       unfolding judge_number judge_error judged_count
-      unread = rw (le-ltb 4095 element small, refused, none, ne_eqb number 0 h) (refl, refl, refl)
+      unread = rw (le-ltb 4095 element small, refused, none, ne_eqb number 0 h) (refl, refl)
 
     -- the records of a pool that is read are judged
     module _ (starts : List ℕ) (count : ℕ) (read : answer 0 count ≡ read_of p room) (listed : Listed p room starts) where
@@ -80,13 +81,12 @@ module _ (p : List ℕ) (room command element ddi : ℕ) (value : ℤ) where
       unfolding acceptance check_of
       accepted = rw (← read)
 
-      pub judged-all : (r : Judgement) → JudgedAmong p (entries_of p (take (count + 1) starts)) command element ddi value r
-          → (r.number ≡ judge_number p room element) × (r.error ≡ judge_error p room command element ddi value) × (count ≡ judged_count p room element)
-      unfolding judge_number judge_error judged_count count_of breaches_of
+      pub judged-all : (r : Answer) → r ≡ judged_among p (entries_of p (take (count + 1) starts)) command element ddi value
+          → (r ≡ judge_answer p room command element ddi value) × (count ≡ judged_count p room element)
+      unfolding judge_number judge_error judged_count count_of breaches_of judged_among
       judged-all r h =
-          let g : JudgedAmong p (entries_in (scan_of p)) command element ddi value r = rw all at h in
-          rw (le-ltb 4095 element small, accepted)
-          (g.number, go (ℕ_discrete (length (breaches_in p (entries_in (scan_of p)))) 0) g.error, rw (← read))
+          let g : r ≡ judged_among p (entries_in (scan_of p)) command element ddi value = rw all at h in
+          rw (le-ltb 4095 element small, accepted) (g ∙ go (ℕ_discrete faults 0), rw (← read))
         where
           faults : ℕ
           faults = length (breaches_in p (entries_in (scan_of p)))
@@ -94,8 +94,6 @@ module _ (p : List ℕ) (room command element ddi : ℕ) (value : ℤ) where
           error : ℕ
           error = error_of p (entries_in (scan_of p)) command element ddi value
 
-          go : Dec (length (breaches_in p (entries_in (scan_of p))) ≡ 0)
-              → r.error ≡ cond (eqb (length (breaches_in p (entries_in (scan_of p)))) 0) (error_of p (entries_in (scan_of p)) command element ddi value) 0
-              → r.error ≡ cond (eqb (cond (eqb (length (breaches_in p (entries_in (scan_of p)))) 0) 0 24) 0) (error_of p (entries_in (scan_of p)) command element ddi value) 0
-          go (yes z) e = rw (eq-eqb (length (breaches_in p (entries_in (scan_of p)))) 0 z) (rw (eq-eqb (length (breaches_in p (entries_in (scan_of p)))) 0 z) at e)
-          go (no z) e = rw (ne_eqb (length (breaches_in p (entries_in (scan_of p)))) 0 z) (rw (ne_eqb (length (breaches_in p (entries_in (scan_of p)))) 0 z) at e)
+          go : Dec (faults ≡ 0) → cond (eqb faults 0) (answer 0 error) (answer 24 0) ≡ answer (cond (eqb faults 0) 0 24) (cond (eqb (cond (eqb faults 0) 0 24) 0) error 0)
+          go (yes z) = rw (eq-eqb faults 0 z)
+          go (no z) = rw (ne_eqb faults 0 z)

@@ -2,6 +2,7 @@
 use Rattle.std.specs.Prelude.{ℕ, zero, suc, ◌/◌, ◌%◌, ◌^◌, Bool, false, cond, not, ◌&&◌, ◌||◌, List, [], ◌∷◌, eqb, ltb, ℤ, pos, length}
 use Rattle.std.specs.Int.Signed.{lt_z}
 use Rattle.views.specs.Fields.{element_of, entry_of, process_data_of}
+use Rattle.pool.specs.Answer.{Answer, answer}
 use Rattle.pool.specs.Reading.{Entry, scan_of, entries_in}
 use Rattle.naming.specs.Naming.{first_of, element_key, named, kind_of, tag_of}
 use Rattle.queries.specs.Queries.{acceptance, start_of}
@@ -92,3 +93,7 @@ judge_number p room element = cond (ltb 4095 element) 32 (acceptance p room)
 unfoldable pub judge_error : List ℕ → ℕ → ℕ → ℕ → ℕ → ℤ → ℕ
 judge_error p room command element ddi value =
     cond (eqb (judge_number p room element) 0) (error_of p (entries_in (scan_of p)) command element ddi value) 0
+
+-- the number and the error byte together
+abbrev pub judge_answer : List ℕ → ℕ → ℕ → ℕ → ℕ → ℤ → Answer
+judge_answer p room command element ddi value = answer (judge_number p room element) (judge_error p room command element ddi value)

@@ -1,37 +1,54 @@
 // Judging a command to the device: one error byte, by an accepted pool.
 #![tactic(auto)]
 
-ghost use Rattle.std.specs.Prelude.{◌≡◌, true, cond, suc, ◌*◌, ◌≤◌, eqb, length};
+ghost use Rattle.std.specs.Prelude.{◌≡◌, true, cond, suc, ◌≤◌, ◌<◌, eqb, length};
+ghost use Rattle.records.specs.Layout.{mark_code};
 ghost use Rattle.views.specs.Fields.{element_of};
-ghost use Rattle.pool.specs.Walk.{entries_of, Divided, Reaches, Listed};
-ghost use Rattle.naming.specs.Lists.{Blank};
-ghost use Rattle.naming.specs.Chained.{Names, Owned};
-ghost use Rattle.judging.specs.Judging.{element_for, object_for, properties_in, triggers_in, misses_setting, misses_trigger, misses_interval, error_of_object, error_of, judge_number, judge_error};
+ghost use Rattle.pool.specs.Walk.{Reaches, Listed};
+ghost use Rattle.naming.specs.Naming.{named, tag_of};
+ghost use Rattle.naming.specs.Entries.{entries_in};
+ghost use Rattle.queries.specs.Parts.{numbered};
+ghost use Rattle.judging.specs.Judging.{element_for, object_for, properties_in, triggers_in, misses_setting, misses_trigger, misses_interval, error_of_object, error_of, judge_answer};
+ghost use Rattle.judging.specs.Answer.{refusal_number, answer_of};
 ghost use Rattle.judging.specs.One.{AcceptedNamesOne};
 ghost use Rattle.judging.specs.Causes.{ErrorIsFirstCause};
-ghost use Rattle.judging.specs.Parts.{JudgedAmong, judged_count};
+ghost use Rattle.judging.specs.Parts.{judged_among, judged_count};
 
-use pool::Outcome;
+use naming::{NamedRecords, RecordList};
+use records::Kind;
+use working_table::Counted;
 
-// Number 0 and the error byte, or a refusal's number and 0.
+// Why a command is not judged.
 #[derive(Clone, Copy)]
-pub struct Judgement {
-    pub number: u32,
-    pub error: u8,
+pub enum Refusal {
+    // The element number is over 4,095.
+    ElementTooLarge,
+    // The pool cannot be read.
+    Unread(pool::Refusal),
+    // The pool has a fault.
+    Faulty,
 }
 
-// A judgement, and how many entries of the table have to be filled.
-#[derive(Clone, Copy)]
-pub struct Judged {
-    pub records: usize,
-    pub judgement: Judgement,
+// Document 01's number for a refusal.
+impl From<Refusal> for u32 {
+    ghost from_gives = { λ refusal number. number ≡ refusal_number refusal };
+
+    fn from(refusal: Refusal) -> u32 {
+        match refusal {
+            Refusal::ElementTooLarge => 32,
+            Refusal::Unread(reason) => reason.into(),
+            Refusal::Faulty => 24,
+        }
+    }
 }
 
-fn judgement_of(records: usize, number: u32, error: u8) -> Judged
-    ensures { (result.records ≡ records) × (result.judgement.number ≡ number) × (result.judgement.error ≡ error) }
-{
-    let judgement = Judgement { number, error };
-    Judged { records, judgement }
+// A command to the device: its number, as C passes it, the device element and the DDI that it is for, and the value that it carries.
+#[derive(Clone, Copy)]
+struct Command {
+    number: u32,
+    element: u16,
+    ddi: u16,
+    value: i32,
 }
 
 // The property bits and trigger bits of an object.
@@ -42,65 +59,65 @@ struct Bits {
 }
 
 // Whether a record is the device element with an element number.
-fn is_numbered(p: &[u8], at: u16, kind: u16, element: u16) -> bool
-    ensures { result ≡ eqb (cond (eqb kind 2) (suc (element_of p.now at).number) 0) (suc element) }
+fn is_numbered(p: &[u8], at: u16, kind: Option<Kind>, element: u16) -> bool
+    ensures { result ≡ eqb (cond (eqb (mark_code kind) 2) (suc (element_of p.now at).number) 0) (suc element) }
 {
-    if kind == 2 {
-        return views::device_element(p, at).number == element;
+    match kind {
+        Some(Kind::Det) => views::device_element(p, at).number == element,
+        _ => false,
     }
-    false
 }
 
-// The number, from 1, of the first device element with an element number, 0 for none.
-fn find_element(p: &[u8], starts: &[u16], element: u16) -> u16
-    requires { Divided p.now starts.now }
-    ensures { result ≡ element_for p.now (entries_of p.now starts.now) element }
+// The first device element with an element number.
+fn find_element(records: &RecordList, element: u16) -> Option<usize>
+    ensures { numbered result ≡ element_for records.now.pool.now (entries_in records.now) element }
 {
-    let count = starts.len() - 1;
-    let mut i: usize = 0;
-    while i < count {
-        let at = starts[i];
-        if is_numbered(p, at, records::view::kind(p, at), element) {
-            return (i + 1) as u16;
-        }
-        i += 1;
-    }
-    0
+    let p = records.pool;
+    let starts = records.starts;
+    starts[..starts.len() - 1].iter().position(|at| is_numbered(
+        p,
+        *at,
+        records::view::mark(p, *at),
+        element,
+    ))
 }
 
-// The number, from 1, of the process data or property with a DDI that the first such entry names, in the list of the device element that
-// starts at a place; 0 for none.
-fn find_object(p: &[u8], starts: &[u16], heads: &[u16], next: &[u16], at: u16, ddi: u16) -> u16
-    requires { Names p.now starts.now heads.now next.now }
-    ensures { result ≡ object_for p.now (entries_of p.now starts.now) at ddi }
+// The process data or property that an ID names, if it has a DDI.
+fn object_of(names: &NamedRecords, id: u16, ddi: u16) -> Option<usize>
+    ensures { numbered result ≡ cond (eqb (tag_of names.now.records.pool.now (entries_in names.now.records) (named (entries_in names.now.records) id)) (suc ddi)) (named (entries_in names.now.records) id) 0 }
 {
+    let named = names.named_at(id);
+    if reference_rules::tag_at(&names.records, named) != ddi as usize + 1 {
+        return None;
+    }
+    Some(named as usize - 1)
+}
+
+// The process data or property with a DDI that the first such entry names, in the list of the device element that starts at a place.
+fn find_object(names: &NamedRecords, at: u16, ddi: u16) -> Option<usize>
+    ensures { numbered result ≡ object_for names.now.records.pool.now (entries_in names.now.records) at ddi }
+{
+    let p = names.records.pool;
     let element = views::device_element(p, at);
-    let size = element.entries;
-    let mut m: u16 = 0;
-    while m < size {
-        let named = naming::named_at(p, starts, heads, next, views::entry(p, at, m));
-        if reference_rules::tag_at(p, starts, named) == ddi as usize + 1 {
-            return named;
-        }
-        m += 1;
-    }
-    0
+    (0..element.entries).find_map(|m| object_of(names, views::entry(p, at, m), ddi))
 }
 
 // The bits of an object, which is process data or a property. A property has none.
-fn bits_of(p: &[u8], kind: u16, at: u16) -> Bits
-    ensures { (result.properties ≡ properties_in p.now kind at) × (result.triggers ≡ triggers_in p.now kind at) }
+fn bits_of(p: &[u8], kind: Option<Kind>, at: u16) -> Bits
+    ensures { (result.properties ≡ properties_in p.now (mark_code kind) at) × (result.triggers ≡ triggers_in p.now (mark_code kind) at) }
 {
-    if kind == 3 {
-        let data = views::process_data(p, at);
-        return Bits {
-            properties: data.properties,
-            triggers: data.triggers,
-        };
-    }
-    Bits {
-        properties: 0,
-        triggers: 0,
+    match kind {
+        Some(Kind::Dpd) => {
+            let data = views::process_data(p, at);
+            Bits {
+                properties: data.properties,
+                triggers: data.triggers,
+            }
+        }
+        _ => Bits {
+            properties: 0,
+            triggers: 0,
+        },
     }
 }
 
@@ -122,173 +139,73 @@ fn lacks_trigger(triggers: u8, command: u32) -> bool
 }
 
 // Whether a command carries an interval that is negative.
-fn lacks_interval(value: i32, command: u32) -> bool
-    ensures { result ≡ misses_interval value command }
+fn lacks_interval(command: Command) -> bool
+    ensures { result ≡ misses_interval command.value command.number }
 {
-    ((command == 4) | (command == 5)) & (value < 0)
+    ((command.number == 4) | (command.number == 5)) & (command.value < 0)
 }
 
 // The error byte of a command whose object was found.
-fn object_error(properties: u8, triggers: u8, command: u32, value: i32) -> u8
-    ensures { result ≡ error_of_object properties triggers command value }
+fn object_error(bits: Bits, command: Command) -> u8
+    ensures { result ≡ error_of_object bits.properties bits.triggers command.number command.value }
 {
-    if lacks_setting(properties, command) {
+    if lacks_setting(bits.properties, command.number) {
         return 0x10;
     }
-    if lacks_trigger(triggers, command) {
+    if lacks_trigger(bits.triggers, command.number) {
         return 0x08;
     }
-    if lacks_interval(value, command) {
+    if lacks_interval(command) {
         return 0x20;
     }
     0
 }
 
-// The error byte of a command, by the records of a pool.
-fn error_in(
-    p: &[u8],
-    starts: &[u16],
-    heads: &[u16],
-    next: &[u16],
-    command: u32,
-    element: u16,
-    ddi: u16,
-    value: i32,
-) -> u8
-    requires { Names p.now starts.now heads.now next.now }
-    ensures { result ≡ error_of p.now (entries_of p.now starts.now) command element ddi value }
+// The error byte of a command, by the records of a pool. It is the byte of the message that answers the command, and no enum: 0 there
+// says that there is no error.
+fn error_in(names: &NamedRecords, command: Command) -> u8
+    ensures { result ≡ error_of names.now.records.pool.now (entries_in names.now.records) command.number command.element command.ddi command.value }
 {
-    if !messages::carries_value(command) {
+    if !messages::carries_value(command.number) {
         return 0x01;
     }
-    let number = find_element(p, starts, element) as usize;
-    if number == 0 {
+    let p = names.records.pool;
+    let starts = names.records.starts;
+    let Some(owner) = find_element(&names.records, command.element) else {
         return 0x02;
-    }
-    let object = find_object(p, starts, heads, next, starts[number - 1], ddi) as usize;
-    if object == 0 {
+    };
+    let Some(object) = find_object(names, starts[owner], command.ddi) else {
         return 0x04;
-    }
-    let at = starts[object - 1];
-    let bits = bits_of(p, records::view::kind(p, at), at);
-    object_error(bits.properties, bits.triggers, command, value)
+    };
+    let at = starts[object];
+    let bits = bits_of(p, records::view::mark(p, at), at);
+    object_error(bits, command)
 }
 
 // Judges by the records of a pool, whose IDs have been listed. A pool with a fault is refused with 24. Only the count of faults matters,
-// so their buffer has room for one.
-fn judge_named(
-    p: &[u8],
-    starts: &[u16],
-    heads: &[u16],
-    next: &[u16],
-    owned: bool,
-    again: &mut [u8],
-    endless: &mut [u8],
-    command: u32,
-    element: u16,
-    ddi: u16,
-    value: i32,
-) -> Judgement
-    requires { Names p.now starts.now heads.now next.now × Blank again.old × Blank endless.old × (length starts.now ≤ 8 * length again.old) × (length starts.now ≤ 8 * length endless.old) × (owned ≡ true → Owned (entries_of p.now starts.now)) }
-    ensures { JudgedAmong p.now (entries_of p.now starts.now) command element ddi value result }
+// so their buffer may have room for none.
+fn judge_named(names: &NamedRecords, faults: &mut [u16], command: Command) -> Result<u8, Refusal>
+    ensures { answer_of result ≡ judged_among names.now.records.pool.now (entries_in names.now.records) command.number command.element command.ddi command.value }
 {
-    let mut none = [0u16; 0];
-    if pool_breaches::put_all(p, starts, heads, next, owned, again, endless, &mut none) != 0 {
-        return Judgement {
-            number: 24,
-            error: 0,
-        };
+    if pool_breaches::put_all(names, faults) != 0 {
+        return Err(Refusal::Faulty);
     }
-    Judgement {
-        number: 0,
-        error: error_in(p, starts, heads, next, command, element, ddi, value),
-    }
+    Ok(error_in(names, command))
 }
 
-// With lists for a pool of up to 1,023 records (`_short`), and with lists for every pool (`_long`). The check uses the same lists, so
-// that the IDs are listed once.
-fn judge_short(
-    p: &[u8],
-    starts: &[u16],
-    command: u32,
-    element: u16,
-    ddi: u16,
-    value: i32,
-) -> Judgement
-    requires { Divided p.now starts.now × (length starts.now ≤ 1024) }
-    ensures { JudgedAmong p.now (entries_of p.now starts.now) command element ddi value result }
+// Judges by the records of a pool. The check and the command use the same lists, so that the IDs are listed once.
+fn judge_among(records: RecordList, command: Command) -> Result<u8, Refusal>
+    ensures { answer_of result ≡ judged_among records.entry.pool.now (entries_in records.entry) command.number command.element command.ddi command.value }
 {
-    let mut heads = [0u16; 512];
-    let mut next = [0u16; 1024];
-    let owned = naming::name_ids(p, starts, &mut heads, &mut next);
-    let mut again = [0u8; 128];
-    let mut endless = [0u8; 128];
-    judge_named(
-        p,
-        starts,
-        &heads,
-        &next,
-        owned,
-        &mut again,
-        &mut endless,
-        command,
-        element,
-        ddi,
-        value,
-    )
+    pool_breaches::with_names(records, &mut [], |names, faults| {
+        judge_named(names, faults, command)
+    })
 }
 
-fn judge_long(
-    p: &[u8],
-    starts: &[u16],
-    command: u32,
-    element: u16,
-    ddi: u16,
-    value: i32,
-) -> Judgement
-    requires { Divided p.now starts.now }
-    ensures { JudgedAmong p.now (entries_of p.now starts.now) command element ddi value result }
-{
-    let mut heads = [0u16; 8192];
-    let mut next = [0u16; 5462];
-    let owned = naming::name_ids(p, starts, &mut heads, &mut next);
-    let mut again = [0u8; 684];
-    let mut endless = [0u8; 684];
-    judge_named(
-        p,
-        starts,
-        &heads,
-        &next,
-        owned,
-        &mut again,
-        &mut endless,
-        command,
-        element,
-        ddi,
-        value,
-    )
-}
-
-// Judges by the records of a pool.
-fn judge_among(
-    p: &[u8],
-    starts: &[u16],
-    command: u32,
-    element: u16,
-    ddi: u16,
-    value: i32,
-) -> Judgement
-    requires { Divided p.now starts.now }
-    ensures { JudgedAmong p.now (entries_of p.now starts.now) command element ddi value result }
-{
-    if starts.len() <= 1024 {
-        return judge_short(p, starts, command, element, ddi, value);
-    }
-    judge_long(p, starts, command, element, ddi, value)
-}
-
-// Judges a command for a table of `room` entries, with a list that is long enough for every record of the pool. For an element number
-// over 4,095 the pool is not looked at, and no entry of the table has to be filled.
+// Judges a command for a table of `room` entries, with a list that is long enough for every record of the pool: the error byte, and how
+// many entries of the table have to be filled. For an element number over 4,095 the pool is not looked at, and none has to be filled.
+// The command comes as single numbers, as C passes them: an element number that is too large makes no `Command`. The list is a parameter of
+// its own for the reason that `pool::list_for` gives.
 pub fn judge_by(
     p: &[u8],
     room: usize,
@@ -297,20 +214,38 @@ pub fn judge_by(
     element: u32,
     ddi: u16,
     value: i32,
-) -> Judged
+) -> Counted<Result<u8, Refusal>>
     requires { Reaches starts.old p.now }
-    ensures { (result.judgement.number ≡ judge_number p.now room element) × (result.judgement.error ≡ judge_error p.now room command element ddi value) × (result.records ≡ judged_count p.now room element) × (element ≤ 4095 → Listed p.now room starts.new) }
+    ensures { (answer_of result.answer ≡ judge_answer p.now room command element ddi value) × (result.records ≡ judged_count p.now room element) × (element ≤ 4095 → Listed p.now room starts.new) }
 {
     if 4095 < element {
-        return judgement_of(0, 32, 0);
+        return Counted {
+            records: 0,
+            answer: Err(Refusal::ElementTooLarge),
+        };
     }
-    let outcome = pool::list_for(p, room, starts);
-    if let Outcome::Records(count) = outcome {
-        let end = count + 1;
-        let judgement = judge_among(p, &starts[..end], command, element as u16, ddi, value);
-        return judgement_of(count, judgement.number, judgement.error);
+    let command = Command {
+        number: command,
+        element: element as u16,
+        ddi,
+        value,
+    };
+    match pool::list_for(p, room, starts) {
+        Ok(count) => {
+            let records = RecordList {
+                pool: p,
+                starts: &starts[..=count],
+            };
+            Counted {
+                records: count,
+                answer: judge_among(records, command),
+            }
+        }
+        Err(reason) => Counted {
+            records: 0,
+            answer: Err(Refusal::Unread(reason)),
+        },
     }
-    judgement_of(0, pool::number_of(outcome), 0)
 }
 
 // In an accepted pool an element number belongs to one device element, and a DDI to one entry of its list. The function does nothing:

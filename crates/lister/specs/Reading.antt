@@ -1,23 +1,14 @@
 -- Reading the input to its end: what the answers of the system's reads mean. Definitions only.
-use Rattle.std.specs.Prelude.{ℕ, zero, suc, ◌+◌, ◌≤◌, ◌<◌, ◌≡◌, cond, leb, ℤ, pos, negsuc}
-use Rattle.lister.specs.declared.Input.{Input}
-use Rattle.lister.specs.declared.Input.TheVariants.{More, Ended, Failed}
+use Rattle.std.specs.Prelude.{ℕ, zero, suc, ◌+◌, cond, leb, Option, Some, None, Result, Ok, Err}
+use Rattle.lister.specs.declared.ReadFailed.{ReadFailed}
 
--- what a read's answer means after n bytes: a negative answer, or one above the room, is a failure and never the end; 0 is the end; any
--- other answer is the number of bytes read
-unfoldable pub input_after : ℕ → ℤ → ℕ → Input
-input_after n (negsuc k) room = Failed
-input_after n (pos zero) room = Ended n
-input_after n (pos (suc k)) room = cond (leb (suc k) room) (More (n + suc k)) Failed
+-- reading has failed
+abbrev pub failed : ReadFailed
+failed = record {}
 
--- after one more read: more bytes have come, but not more than the buffer has, or reading has ended where it was, or it has failed
-abbrev pub Further : ℕ → ℕ → Input → Type 0
-Further n size (More m) = (n < m) × (m ≤ size)
-Further n size (Ended m) = m ≡ n
-Further n size Failed = Unit {0}
-
--- reading is over: it is at the end of the input or of the buffer, or it has failed
-abbrev pub Over : ℕ → Input → Type 0
-Over size (More m) = ⊥
-Over size (Ended m) = m ≤ size
-Over size Failed = Unit {0}
+-- what a read's answer means after n bytes: a read that fails, or one that gives more bytes than there is room for, is a failure and never
+-- the end; a read of no bytes is the end; after any other there are as many bytes more
+abbrev pub input_after : {E : Type 0} → ℕ → Result ℕ E → ℕ → Result (Option ℕ) ReadFailed
+input_after n (Ok zero) room = Ok None
+input_after n (Ok (suc k)) room = cond (leb (suc k) room) (Ok (Some (n + suc k))) (Err failed)
+input_after n (Err error) room = Err failed

@@ -2,69 +2,45 @@
 // place of the refusal. It writes the memory that `pool_listing::list` has filled.
 #![tactic(auto)]
 
-ghost use Rattle.std.specs.Prelude.{◌+◌, ◌^◌, ◌≤◌, ◌<◌, ◌≡◌, length};
-ghost use Rattle.lister.specs.Reading.{input_after, Further, Over};
+ghost use Rattle.std.specs.Prelude.{◌+◌, ◌^◌, ◌≤◌, ◌<◌, ◌≡◌, length, IfOk};
+ghost use Rattle.lister.specs.Reading.{input_after};
 
-use std::io::{ErrorKind, Read, Write};
+use pool_listing::LONGEST;
+use std::io::{self, ErrorKind, Read, Write};
 use std::process::ExitCode;
 
-// How far reading has come: this many bytes and perhaps more to come, all bytes, namely this many, or a read that failed.
+// A read of the input failed.
 #[derive(Clone, Copy)]
-enum Input {
-    More(usize),
-    Ended(usize),
-    Failed,
-}
+struct ReadFailed;
 
-// What a read's answer means after n bytes, if there is room for room more. A failed read must not be taken for the end of the input:
-// the bytes so far may divide into records and yet not be the whole pool.
-fn read_on(n: usize, got: isize, room: usize) -> Input
+// How many bytes there are after a read that follows n bytes and had room for `room` more, or none if the input has ended. A failed read
+// must not be taken for the end of the input: the bytes so far may divide into records and yet not be the whole pool.
+fn after_read(n: usize, got: io::Result<usize>, room: usize) -> Result<Option<usize>, ReadFailed>
     requires { n + room < 2 ^ 64 }
     ensures { result ≡ input_after n got room }
 {
-    if got < 0 {
-        return Input::Failed;
-    }
-    let k = got as usize;
-    if k == 0 {
-        return Input::Ended(n);
-    }
-    if k <= room {
-        return Input::More(n + k);
-    }
-    Input::Failed
-}
-
-// How many bytes a read gave, or a negative number if it failed.
-fn read_part(rt: &HostRuntime, part: &mut [u8]) -> isize {
-    match rt.stdin().read(part) {
-        Ok(count) => isize::try_from(count).unwrap_or(-1),
-        Err(_) => -1,
+    match got {
+        Ok(0) => Ok(None),
+        Ok(k) if k <= room => Ok(Some(n + k)),
+        _ => Err(ReadFailed),
     }
 }
 
-fn read_more(rt: &HostRuntime, input: &mut [u8], n: usize) -> Input
-    requires { n ≤ length input.old }
-    ensures { Further n (length input.old) result }
-{
-    let part = &mut input[n..];
-    let got = read_part(rt, part);
-    read_on(n, got, part.len())
-}
-
-// Reads to the end of the input or of the buffer.
-fn read_input(rt: &HostRuntime, input: &mut [u8]) -> Input
-    ensures { Over (length input.old) result }
+// Reads to the end of the input or of the buffer, and returns how many bytes there are. How far a read comes is known only when it has
+// been made, so no range counts the reads.
+fn read_input(rt: &HostRuntime, input: &mut [u8]) -> Result<usize, ReadFailed>
+    ensures { IfOk result (λ n. n ≤ length input.old) }
 {
     let mut n: usize = 0;
     while n < input.len() {
-        let next = read_more(rt, input, n);
-        let Input::More(m) = next else {
-            return next;
+        let room = input.len() - n;
+        let got = rt.stdin().read(&mut input[n..]);
+        let Some(more) = after_read(n, got, room)? else {
+            return Ok(n);
         };
-        n = m;
+        n = more;
     }
-    Input::Ended(n)
+    Ok(n)
 }
 
 // Reports a failure on standard error. If that fails too, there is nobody left to tell.
@@ -88,10 +64,9 @@ fn write_out(rt: &HostRuntime, listing: &[u8]) -> u8 {
 }
 
 fn run(rt: &HostRuntime, input: &mut [u8], out: &mut [u8]) -> u8
-    requires { 102413 ≤ length out.old }
+    requires { LONGEST ≤ length out.old }
 {
-    let read = read_input(rt, input);
-    let Input::Ended(n) = read else {
+    let Ok(n) = read_input(rt, input) else {
         report(rt, b"lister: standard input cannot be read\n");
         return 0;
     };
@@ -102,6 +77,6 @@ fn run(rt: &HostRuntime, input: &mut [u8], out: &mut [u8]) -> u8
 // The input buffer has one byte more than a pool may have, so that too long an input is noticed.
 fn main(rt: HostRuntime) -> ExitCode {
     let mut input = [0u8; 65536];
-    let mut out = [0u8; 102413];
+    let mut out = [0u8; LONGEST];
     ExitCode::from(run(&rt, &mut input, &mut out))
 }

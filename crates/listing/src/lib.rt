@@ -1,93 +1,119 @@
 // The lines of a listing. Each is put together in memory of its own and then copied into a lent buffer at a place; the place after it
-// is returned. A line that does not fit is left out as a whole: buffer and place stay as they were.
+// is returned. A line that does not fit is left out as a whole: buffer and place stay as they were. They are two parameters, as `decimal`
+// says why.
 #![tactic(auto)]
 
-ghost use Rattle.std.specs.Prelude.{◌+◌, ◌≤◌, ◌≡◌, ◌++◌, length, take};
+ghost use Rattle.std.specs.Prelude.{◌+◌, ◌≤◌, ◌≡◌, [], ◌++◌, length};
 ghost use Rattle.wire.specs.Bytes.{laid};
 ghost use Rattle.decimal.specs.Digits.{digits, place_after};
 ghost use Rattle.listing.specs.Lines.{letters, count_line, record_line, accepted_line, fault_line, refused_line};
 
-// Copies bytes into the buffer, whole or not at all, and returns the place after them.
-fn lay(out: &mut [u8], at: usize, s: &[u8]) -> usize
-    ensures { (out.new ≡ laid out.old at s.now) × (result ≡ place_after out.old at s.now) }
-{
-    if wire::copy(s, out, at) {
-        return at + s.len();
-    }
-    at
+use std::marker::Model;
+
+// A line that is being put together, in memory of its own: the first `used` bytes. It is seen as the list of these bytes.
+#[derive(Drop)]
+struct Line {
+    memory: [u8; 128],
+    used: usize,
 }
 
-// Adds bytes to a line that has n bytes so far.
-fn add(line: &mut [u8; 128], n: usize, s: &[u8]) -> usize
-    requires { n + length s.now ≤ 128 }
-    ensures { (take result line.new ≡ take n line.old ++ s.now) × (result ≡ n + length s.now) × (result ≤ length line.new) }
-{
-    wire::copy(s, line, n);
-    n + s.len()
+impl Model for Line {
+    ghost use Rattle.std.specs.Prelude.{◌≡◌, ◌≤◌, ℕ, List, length, take};
+
+    ghost Value = { List ℕ };
+
+    ghost view = { λ a. take a.used a.memory };
+
+    ghost invariant = { λ a. a.used ≤ 128 };
 }
 
-// Adds a word and the digits of a number.
-fn add_number(line: &mut [u8; 128], n: usize, word: &[u8], x: u64) -> usize
-    requires { n + length word.now + 20 ≤ 128 }
-    ensures { (take result line.new ≡ take n line.old ++ word.now ++ digits x) × (result ≤ n + length word.now + 20) }
-{
-    let m = add(line, n, word);
-    decimal::put(line, m, x)
+impl Line {
+    // A line without bytes.
+    fn new() -> Line
+        ensures { result ≡ [] }
+    {
+        Line {
+            memory: [0; 128],
+            used: 0,
+        }
+    }
+
+    // Adds bytes, for which there is room.
+    fn add(&mut self, s: &[u8])
+        requires { length self.old + length s.now ≤ 128 }
+        ensures { self.new ≡ self.old ++ s.now }
+    {
+        wire::copy(s, &mut self.memory, self.used);
+        self.used += s.len();
+    }
+
+    // Adds a word and the digits of a number, of which there are at most 20.
+    fn add_number(&mut self, word: &[u8], x: u64)
+        requires { length self.old + length word.now + 20 ≤ 128 }
+        ensures line { self.new ≡ self.old ++ word.now ++ digits x }
+        ensures few { length self.new ≤ length self.old + length word.now + 20 }
+    {
+        self.add(word);
+        self.used = decimal::put(&mut self.memory, self.used, x);
+    }
+
+    // Copies the line into a buffer, whole or not at all, and returns the place after it.
+    fn lay(&self, out: &mut [u8], at: usize) -> usize
+        ensures { (out.new ≡ laid out.old at self.now) × (result ≡ place_after out.old at self.now) }
+    {
+        decimal::put_bytes(out, at, &self.memory[..self.used])
+    }
 }
 
-// Begins a line with the mark of a kind, by the kind's number.
-fn begin(line: &mut [u8; 128], kind: u16) -> usize
-    ensures { (take result line.new ≡ letters kind) × (result ≤ 3) }
+// The mark of a kind, by the kind's number; no bytes for a number that no kind has, which `put_record` may be given.
+fn mark_of(kind: u16) -> &'static [u8]
+    ensures { (result.now ≡ letters kind) × (length result.now ≤ 3) }
 {
-    if kind == 1 {
-        return add(line, 0, b"DVC");
+    match kind {
+        1 => b"DVC",
+        2 => b"DET",
+        3 => b"DPD",
+        4 => b"DPT",
+        5 => b"DVP",
+        _ => b"",
     }
-    if kind == 2 {
-        return add(line, 0, b"DET");
-    }
-    if kind == 3 {
-        return add(line, 0, b"DPD");
-    }
-    if kind == 4 {
-        return add(line, 0, b"DPT");
-    }
-    if kind == 5 {
-        return add(line, 0, b"DVP");
-    }
-    0
 }
 
 // Writes the line for the count of records.
+#[tactic(auto, unfolding(crate::specs::Lines::count_line))]
 pub fn put_count(out: &mut [u8], at: usize, count: u64) -> usize
     ensures { (out.new ≡ laid out.old at (count_line count)) × (result ≡ place_after out.old at (count_line count)) }
 {
-    let mut line = [0u8; 128];
-    let a = add_number(&mut line, 0, b"records ", count);
-    let end = add(&mut line, a, b"\n");
-    lay(out, at, &line[..end])
+    let mut line = Line::new();
+    line.add_number(b"records ", count);
+    line.add(b"\n");
+    line.lay(out, at)
 }
 
 // Writes the line for a record.
+#[tactic(auto, unfolding(crate::specs::Lines::record_line))]
 pub fn put_record(out: &mut [u8], at: usize, kind: u16, id: u16, start: u16, size: u16) -> usize
     ensures { (out.new ≡ laid out.old at (record_line kind id start size)) × (result ≡ place_after out.old at (record_line kind id start size)) }
 {
-    let mut line = [0u8; 128];
-    let a = begin(&mut line, kind);
-    let b = add_number(&mut line, a, b" ", id as u64);
-    let c = add_number(&mut line, b, b" at ", start as u64);
-    let d = add_number(&mut line, c, b" length ", size as u64);
-    let end = add(&mut line, d, b"\n");
-    lay(out, at, &line[..end])
+    let mut line = Line::new();
+    line.add(mark_of(kind));
+    line.add_number(b" ", id as u64);
+    line.add_number(b" at ", start as u64);
+    line.add_number(b" length ", size as u64);
+    line.add(b"\n");
+    line.lay(out, at)
 }
 
 // Writes the line for a pool without faults.
 pub fn put_accepted(out: &mut [u8], at: usize) -> usize
     ensures { (out.new ≡ laid out.old at accepted_line) × (result ≡ place_after out.old at accepted_line) }
 {
-    lay(out, at, b"accepted\n")
+    decimal::put_bytes(out, at, b"accepted\n")
 }
 
-// Writes the line for a fault.
+// Writes the line for a fault. Its five numbers are passed one by one, as the buffer of faults has them: a struct would be built only to be
+// taken apart here.
+#[tactic(auto, unfolding(crate::specs::Lines::fault_line))]
 pub fn put_fault(
     out: &mut [u8],
     at: usize,
@@ -99,23 +125,24 @@ pub fn put_fault(
 ) -> usize
     ensures { (out.new ≡ laid out.old at (fault_line number rule item id parent)) × (result ≡ place_after out.old at (fault_line number rule item id parent)) }
 {
-    let mut line = [0u8; 128];
-    let a = add_number(&mut line, 0, b"fault ", number as u64);
-    let b = add_number(&mut line, a, b" ", rule as u64);
-    let c = add_number(&mut line, b, b" ", item as u64);
-    let d = add_number(&mut line, c, b" ", id as u64);
-    let e = add_number(&mut line, d, b" ", parent as u64);
-    let end = add(&mut line, e, b"\n");
-    lay(out, at, &line[..end])
+    let mut line = Line::new();
+    line.add_number(b"fault ", number as u64);
+    line.add_number(b" ", rule as u64);
+    line.add_number(b" ", item as u64);
+    line.add_number(b" ", id as u64);
+    line.add_number(b" ", parent as u64);
+    line.add(b"\n");
+    line.lay(out, at)
 }
 
 // Writes the line for a refusal.
+#[tactic(auto, unfolding(crate::specs::Lines::refused_line))]
 pub fn put_refused(out: &mut [u8], at: usize, number: u64, place: u64) -> usize
     ensures { (out.new ≡ laid out.old at (refused_line number place)) × (result ≡ place_after out.old at (refused_line number place)) }
 {
-    let mut line = [0u8; 128];
-    let a = add_number(&mut line, 0, b"refused ", number);
-    let b = add_number(&mut line, a, b" ", place);
-    let end = add(&mut line, b, b"\n");
-    lay(out, at, &line[..end])
+    let mut line = Line::new();
+    line.add_number(b"refused ", number);
+    line.add_number(b" ", place);
+    line.add(b"\n");
+    line.lay(out, at)
 }

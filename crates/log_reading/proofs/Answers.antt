@@ -10,7 +10,11 @@ use lib.ListN.{length}
 use lib.Seq.{sets}
 use Rattle.time_log.specs.Contents.{values_counted, ordinals_at, values_at}
 use Rattle.time_log.specs.Judging.{record_refusal}
-use Rattle.log_reading.specs.Reading.{read_refusal, refused_by, whole_record, read_of, ordinals_after, values_after}
+use Rattle.time_log.specs.Refusing.{refusal_number}
+use Rattle.time_log.specs.declared.Refusal.{Refusal}
+use Rattle.time_log.proofs.Refusals.{refusal_some}
+use Rattle.std.specs.Prelude.{Err}
+use Rattle.log_reading.specs.Reading.{read_refusal, refused_by, record_of, whole_record, read_of, ordinals_after, values_after}
 
 pub neither : (a b n : ℕ) → (ltb a n || ltb b n) ≡ false → (n ≤ a) × (n ≤ b)
 neither a b n e = let h = go (ltb a n) (ltb b n) e in (ltb-false a n h.0, ltb-false b n h.1)
@@ -38,6 +42,11 @@ module _ (layout logged : ℕ) (s : List ℕ) (os : List ℕ) (vs : List ℤ) wh
       → (refused_by x ≡ read_of layout logged s (length os) (length vs)) × (os ≡ ordinals_after layout logged s os vs) × (vs ≡ values_after layout logged s os vs)
   unfolding read_of ordinals_after values_after
   after-refusal x e n = rw (e, ne_eqb x 0 n) (refl, refl, refl)
+
+  -- a refusal that the record gives
+  pub refused-as : (r : Refusal) → refusal_number r ≡ record_refusal layout logged s
+      → (record_of (Err r) ≡ read_of layout logged s (length os) (length vs)) × (os ≡ ordinals_after layout logged s os vs) × (vs ≡ values_after layout logged s os vs)
+  refused-as r e = after-refusal (refusal_number r) (judged (refusal_number r) e (refusal_some r)) (refusal_some r)
 
   pub after-success : read_refusal layout logged s (length os) (length vs) ≡ 0
       → (whole_record layout s ≡ read_of layout logged s (length os) (length vs)) × (sets os 0 (ordinals_at layout s) ≡ ordinals_after layout logged s os vs) × (sets vs 0 (values_at layout s) ≡ values_after layout logged s os vs)

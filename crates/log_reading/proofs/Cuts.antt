@@ -11,7 +11,8 @@ use Rattle.wire.proofs.Either.{by-case}
 use Rattle.time_log.specs.Layout.{part_width, place_of, record_length}
 use Rattle.time_log.specs.Contents.{fields_at, values_counted, extent_of, ordinals_at}
 use Rattle.time_log.specs.Judging.{one_over, record_refusal}
-use Rattle.time_log.proofs.Refusals.{not-forty, ends-early, ends-inside, whole-record}
+use Rattle.time_log.proofs.Parts.{count_inside}
+use Rattle.time_log.proofs.Refusals.{not-forty, ends-inside, whole-record}
 use Rattle.log_reading.specs.Whole.{field_bytes, Whole, Cut, Starts, CutIsForty}
 
 -- ---- bytes that can be added
@@ -48,9 +49,9 @@ module _ (layout logged : ℕ) (s : List ℕ) (small : layout ≤ 511) where
       let l = leb-false (length s) (place_of layout 9) e in
       by-case (ltb (length s) (extent_of layout s)) (λ t. g l (ltb-true (length s) (extent_of layout s) t)) (λ t. h l (ltb-false (length s) (extent_of layout s) t)))
 
-  not-whole : place_of layout 9 < length s → extent_of layout s ≤ length s → record_refusal layout logged s ≡ 40 → ⊥
-  not-whole l w e =
-      not-forty (fields_at layout s) (one_over logged (ordinals_at layout s)) (whole-record layout logged s small l w _ refl ∙ e)
+  not-whole : extent_of layout s ≤ length s → record_refusal layout logged s ≡ 40 → ⊥
+  not-whole w e =
+      not-forty (fields_at layout s) (one_over logged (ordinals_at layout s)) (whole-record layout logged s small w _ refl ∙ e)
 
   -- ---- what 40 says
   cut-early : length s ≤ place_of layout 9 → Cut layout s
@@ -92,14 +93,14 @@ module _ (layout logged : ℕ) (s : List ℕ) (small : layout ≤ 511) where
       }
 
   to-cut : record_refusal layout logged s ≡ 40 → Cut layout s
-  to-cut e = early-or-later cut-early cut_later (λ l w. absurd (not-whole l w e))
+  to-cut e = early-or-later cut-early cut_later (λ l w. absurd (not-whole w e))
 
   to-starts : (record_refusal layout logged s ≡ 40 → ⊥) → Starts layout s
   unfolding record_length
   to-starts n =
       early-or-later
-      (λ h. absurd (n (sym (ends-early layout logged s small h))))
-      (λ l h. absurd (n (sym (ends-inside layout logged s small l h))))
+      (λ h. absurd (n (sym (ends-inside layout logged s small (omega (arith, h, count_inside layout (values_counted layout s)))))))
+      (λ l h. absurd (n (sym (ends-inside layout logged s small h))))
       (λ l h.
       let p = place_of layout 9 in
       let m = 5 * values_counted layout s in
@@ -138,8 +139,8 @@ module _ (layout logged : ℕ) (s : List ℕ) (small : layout ≤ 511) where
       let n = long layout (s ++ c.more) c.whole in
       let a = length-append s c.more in
       sym
-      (early-or-later layout logged s small (λ h. ends-early layout logged s small h)
-      (λ l h. ends-inside layout logged s small l h)
+      (early-or-later layout logged s small (λ h. ends-inside layout logged s small (omega (arith, h, count_inside layout (values_counted layout s))))
+      (λ l h. ends-inside layout logged s small h)
       (λ l h.
       let k : values_counted layout s ≡ c.whole.count = sym (get_or-append s c.more 0 (place_of layout 9) l) ∙ counted layout (s ++ c.more) c.whole in
       absurd (omega (arith, c.some))))
@@ -150,7 +151,7 @@ module _ (layout logged : ℕ) (s : List ℕ) (small : layout ≤ 511) where
       let n = long layout t.first t.whole in
       let a : length s ≡ length t.first + length t.rest = ap length t.same ∙ length-append t.first t.rest in
       let k : values_counted layout s ≡ t.whole.count = ap (values_counted layout) t.same ∙ get_or-append t.first t.rest 0 (place_of layout 9) (omega arith) ∙ counted layout t.first t.whole in
-      not-whole layout logged s small (omega arith) (omega arith)
+      not-whole layout logged s small (omega arith)
 
 pub cut-is-forty : CutIsForty
 cut-is-forty =

@@ -12,6 +12,7 @@ use Rattle.wire.specs.Parts.{joined}
 use Rattle.time_log.specs.Layout.{place_of, record_length}
 use Rattle.time_log.specs.Contents.{values_counted, extent_of}
 use Rattle.time_log.specs.Judging.{record_refusal}
+use Rattle.time_log.proofs.Parts.{count_inside}
 use Rattle.log_reading.specs.Logs.{whole_log, walk, log_of}
 use Rattle.log_reading.specs.Joined.{OneRecord, AllRecords, Records, LogsAreRecords}
 use Rattle.log_reading.specs.declared.Log.{Log}
@@ -22,10 +23,6 @@ empty : (s : List ℕ) → length s ≡ 0 → s ≡ []
 empty [] e = refl
 empty (x ∷ s) e = absurd (omega (arith, e))
 
-pub extent-inside : (layout n : ℕ) → place_of layout 9 < record_length layout n
-unfolding record_length
-extent-inside layout n = omega arith
-
 module _ (layout logged : ℕ) where
   -- the record that the bytes start with, cut off
   pub first : (s : List ℕ) → record_refusal layout logged s ≡ 0 → OneRecord layout logged (take (extent_of layout s) s)
@@ -33,9 +30,9 @@ module _ (layout logged : ℕ) where
       let g = granted layout logged s e in
       let w = extent_of layout s in
       let n : length (take w s) ≡ w = length-take-le w s g.whole in
-      let same : values_counted layout (take w s) ≡ values_counted layout s = get_or-take w s (place_of layout 9) 0 (extent-inside layout (values_counted layout s)) in
+      let same : values_counted layout (take w s) ≡ values_counted layout s = get_or-take w s (place_of layout 9) 0 (count_inside layout (values_counted layout s)) in
       let f : extent_of layout (take w s) ≡ w = ap (record_length layout) same in
-      record { long = n ∙ sym f; right = refusal-less layout logged (take w s) (drop w s) (omega (arith, n, extent-inside layout (values_counted layout s))) (omega (arith, n, f)) (rw (take-append-drop w s) e) }
+      record { long = n ∙ sym f; right = refusal-less layout logged (take w s) (drop w s) (omega (arith, n, count_inside layout (values_counted layout s))) (omega (arith, n, f)) (rw (take-append-drop w s) e) }
 
   none : (turns at n m : ℕ) (s : List ℕ) → length s ≡ 0 → walk layout logged turns at n s ≡ whole_log m
       → (rs : List (List ℕ)) × AllRecords layout logged rs × (s ≡ joined rs) × (n + length rs ≡ m)
@@ -55,7 +52,7 @@ module _ (layout logged : ℕ) where
       let w = extent_of layout s in
       let f : suc turns - 1 ≡ turns = omega arith in
       let p = length-drop w s in
-      let rest = gather turns (at + w) (n + 1) m (drop w s) (omega (arith, h, p, extent-inside layout (values_counted layout s))) (rw f at (walk-on layout logged (suc turns) at n s (omega arith) l q ∙ e)) in
+      let rest = gather turns (at + w) (n + 1) m (drop w s) (omega (arith, h, p, count_inside layout (values_counted layout s))) (rw f at (walk-on layout logged (suc turns) at n s (omega arith) l q ∙ e)) in
       (take w s ∷ rest.0, (first s q, rest.1), sym (take-append-drop w s) ∙ ap (λ (x : List ℕ). take w s ++ x) rest.2, omega (arith, rest.3)))
       (λ y. absurd (eqb-false (record_refusal layout logged s) 0 y (ap (λ (l : Log). l.number) (walk-stop layout logged (suc turns) at n s (record_refusal layout logged s) (omega arith) l refl (eqb-false (record_refusal layout logged s) 0 y) ∙ e)))))
 

@@ -18,7 +18,8 @@ use Rattle.log_reading.specs.Joined.{AllRecords, RefusedAt, LogsAreRefused}
 use Rattle.log_reading.specs.declared.Log.{Log}
 use Rattle.log_reading.proofs.Prefix.{granted, extent-same, refusal-more}
 use Rattle.log_reading.proofs.Walks.{walk_end, walk-on, walk-stop}
-use Rattle.log_reading.proofs.Divided.{first, extent-inside}
+use Rattle.time_log.proofs.Parts.{count_inside}
+use Rattle.log_reading.proofs.Divided.{first}
 
 module _ (layout logged : ℕ) where
   ended : (turns at n x st : ℕ) (s : List ℕ) → length s ≡ 0 → 0 < x → walk layout logged turns at n s ≡ bad_log x st → ⊥
@@ -54,7 +55,7 @@ module _ (layout logged : ℕ) where
       let w = extent_of layout s in
       let f : suc turns - 1 ≡ turns = omega arith in
       let d = length-drop w s in
-      let r = tear turns (at + w) (n + 1) x st (drop w s) (omega (arith, extent-inside layout (values_counted layout s))) p (rw f at (walk-on layout logged (suc turns) at n s (omega arith) l q ∙ e)) in
+      let r = tear turns (at + w) (n + 1) x st (drop w s) (omega (arith, count_inside layout (values_counted layout s))) p (rw f at (walk-on layout logged (suc turns) at n s (omega arith) l q ∙ e)) in
       (w + r.0, preceded s x r.0 q r.1, omega (arith, r.2)))
       (λ y.
       let b = walk-stop layout logged (suc turns) at n s (record_refusal layout logged s) (omega arith) l refl (eqb-false (record_refusal layout logged s) 0 y) ∙ e in

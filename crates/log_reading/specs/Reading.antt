@@ -1,10 +1,13 @@
 -- Reading one record into two lent lists. Definitions only.
-use Rattle.std.specs.Prelude.{ℕ, cond, ◌||◌, List, eqb, ltb, ℤ, pos, length}
+use Rattle.std.specs.Prelude.{ℕ, Result, Ok, Err, cond, ◌||◌, List, eqb, ltb, ℤ, pos, length}
 use Rattle.std.proofs.lemmas.List.Edits.{sets}
 use Rattle.time_log.specs.Layout.{record_length}
 use Rattle.time_log.specs.Contents.{fields_at, values_counted, ordinals_at, values_at}
 use Rattle.time_log.specs.Judging.{record_refusal}
 use Rattle.time_log.specs.declared.Fields.{Fields}
+use Rattle.time_log.specs.Refusing.{refusal_number}
+use Rattle.time_log.specs.declared.Refusal.{Refusal}
+use Rattle.log_reading.specs.declared.Reading.{Reading}
 use Rattle.log_reading.specs.declared.Record.{Record}
 
 -- why a record is not read; 46, after all other refusals: a list has fewer elements than the record has values
@@ -34,6 +37,11 @@ no_fields =
 -- the answer with a refusal's number: everything else is 0
 abbrev pub refused_by : ℕ → Record
 refused_by n = record { number = n; length = 0; count = 0; fields = no_fields }
+
+-- how C is told what reading a record answers
+abbrev pub record_of : Result Reading Refusal → Record
+record_of (Ok r) = record { number = 0; length = r.length; count = r.count; fields = r.fields }
+record_of (Err refusal) = refused_by (refusal_number refusal)
 
 -- the answer for a record that is read
 abbrev pub whole_record : ℕ → List ℕ → Record

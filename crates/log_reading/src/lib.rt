@@ -4,15 +4,23 @@
 ghost use Rattle.std.specs.Prelude.{◌≡◌, ◌+◌, ◌*◌, ◌≤◌, length};
 ghost use Rattle.std.proofs.lemmas.List.Edits.{sets};
 ghost use Rattle.time_log.specs.Contents.{spaced, signed_from};
-ghost use Rattle.log_reading.specs.Reading.{refused_by, read_of, ordinals_after, values_after};
-ghost use Rattle.log_reading.specs.Logs.{log_of};
+ghost use Rattle.log_reading.specs.Reading.{record_of, read_of, ordinals_after, values_after};
+ghost use Rattle.log_reading.specs.Logs.{log_answer, log_of};
 ghost use Rattle.log_reading.specs.Joined.{LogsAreRecords, LogsAreRefused};
 ghost use Rattle.log_reading.specs.Whole.{CutIsForty};
 ghost use Rattle.log_reading.specs.Worked.{WorkedRecords};
 
-use time_log::Fields;
+use time_log::{Fields, Refusal};
 
-// What reading a record answers: number 0 with its length, its count of values and its fields, or a refusal with zeros.
+// A record that is read: its length, its count of values and its fields.
+#[derive(Clone, Copy)]
+pub struct Reading {
+    pub length: usize,
+    pub count: usize,
+    pub fields: Fields,
+}
+
+// What `lachsbrille_log_read_record` tells C: number 0 with its length, its count of values and its fields, or a refusal with zeros.
 #[repr(C)]
 #[derive(Clone, Copy)]
 pub struct Record {
@@ -22,53 +30,38 @@ pub struct Record {
     pub fields: Fields,
 }
 
-fn refused(number: u32) -> Record
-    ensures { result ≡ refused_by number }
-{
-    let fields = Fields {
-        time: 0,
-        days: 0,
-        north: 0,
-        east: 0,
-        up: 0,
-        status: 0,
-        pdop: 0,
-        hdop: 0,
-        satellites: 0,
-        gps_time: 0,
-        gps_date: 0,
-    };
-    Record {
-        number,
-        length: 0,
-        count: 0,
-        fields,
+impl From<Result<Reading, Refusal>> for Record {
+    ghost from_gives = { λ answer told. told ≡ record_of answer };
+
+    fn from(answer: Result<Reading, Refusal>) -> Record {
+        match answer {
+            Ok(reading) => Record {
+                number: 0,
+                length: reading.length,
+                count: reading.count,
+                fields: reading.fields,
+            },
+            Err(refusal) => Record {
+                number: refusal.into(),
+                length: 0,
+                count: 0,
+                fields: Fields::default(),
+            },
+        }
     }
 }
 
-fn fill_ordinals(bytes: &[u8], at: usize, ordinals: &mut [u8], n: usize)
-    requires { (n ≤ length ordinals.old) × (at + 5 * n ≤ length bytes.now) }
-    ensures { ordinals.new ≡ sets ordinals.old 0 (spaced 5 n bytes.now at) }
+// Takes n pairs of ordinal and value apart, into the first places of the two lists that C lends. By index: of what a `zip` of two
+// `iter_mut` leaves in the lists, a proof knows nothing, and a loop for each list would compute each pair's place twice.
+fn take_pairs(bytes: &[u8], at: usize, ordinals: &mut [u8], values: &mut [i32], n: usize)
+    requires { (n ≤ length ordinals.old) × (n ≤ length values.old) × (n ≤ 255) × (at + 5 * n ≤ length bytes.now) }
+    ensures ordinals { ordinals.new ≡ sets ordinals.old 0 (spaced 5 n bytes.now at) }
+    ensures values { values.new ≡ sets values.old 0 (signed_from n bytes.now (at + 1)) }
 {
-    let mut p = at;
-    let mut i = 0usize;
-    while i < n {
-        ordinals[i] = bytes[p];
-        p += 5;
-        i += 1;
-    }
-}
-
-fn fill_values(bytes: &[u8], at: usize, values: &mut [i32], n: usize)
-    requires { (n ≤ length values.old) × (n ≤ 255) × (at + 5 * n ≤ length bytes.now + 1) }
-    ensures { values.new ≡ sets values.old 0 (signed_from n bytes.now at) }
-{
-    let mut p = at;
-    let mut i = 0usize;
-    while i < n {
-        values[i] = wire::signed(wire::number(bytes, p, 4) as u32);
-        p += 5;
-        i += 1;
+    for k in 0..n {
+        let pair = at + 5 * k;
+        ordinals[k] = bytes[pair];
+        values[k] = wire::signed(wire::number(bytes, pair + 1, 4) as u32);
     }
 }
 
@@ -79,42 +72,44 @@ pub fn read_record(
     logged: usize,
     ordinals: &mut [u8],
     values: &mut [i32],
-) -> Record
-    ensures { (result ≡ read_of layout logged bytes.now (length ordinals.old) (length values.old)) × (ordinals.new ≡ ordinals_after layout logged bytes.now ordinals.old values.old) × (values.new ≡ values_after layout logged bytes.now ordinals.old values.old) }
+) -> Result<Reading, Refusal>
+    ensures { (record_of result ≡ read_of layout logged bytes.now (length ordinals.old) (length values.old)) × (ordinals.new ≡ ordinals_after layout logged bytes.now ordinals.old values.old) × (values.new ≡ values_after layout logged bytes.now ordinals.old values.old) }
 {
-    if 511 < layout {
-        return refused(47);
-    }
+    time_log::judge_layout(layout)?;
     let places = time_log::places_of(layout);
-    let at = places.count;
-    if bytes.len() <= at {
-        return refused(40);
+    let count = places.values_in(bytes)?;
+    let pairs = places.count() + 1;
+    let fields = time_log::fields_of(bytes, &places);
+    let over = time_log::any_over(bytes, pairs, count, logged);
+    time_log::judge_fields(fields, over)?;
+    if (ordinals.len() < count) | (values.len() < count) {
+        return Err(Refusal::NoRoom);
     }
-    let n = bytes[at] as usize;
-    let length = at + 1 + 5 * n;
-    if bytes.len() < length {
-        return refused(40);
-    }
-    let fields = time_log::fields_of(bytes, layout, places);
-    let over = time_log::any_over(bytes, at + 1, n, logged);
-    let number = time_log::judged(fields, over);
-    if number != 0 {
-        return refused(number);
-    }
-    if (ordinals.len() < n) | (values.len() < n) {
-        return refused(46);
-    }
-    fill_ordinals(bytes, at + 1, ordinals, n);
-    fill_values(bytes, at + 2, values, n);
-    Record {
-        number: 0,
-        length,
-        count: n,
+    take_pairs(bytes, pairs, ordinals, values, count);
+    Ok(Reading {
+        length: places.length_with(count),
+        count,
         fields,
+    })
+}
+
+// Why a log is refused, and where the refused record starts.
+#[derive(Clone, Copy, Debug, PartialEq, Eq)]
+pub struct Refused {
+    pub refusal: Refusal,
+    pub start: usize,
+}
+
+// A bad layout is refused before any record.
+impl From<Refusal> for Refused {
+    ghost from_gives = { λ refusal refused. refused ≡ record { refusal = refusal; start = 0 } };
+
+    fn from(refusal: Refusal) -> Refused {
+        Refused { refusal, start: 0 }
     }
 }
 
-// What reading a log answers: number 0 and the count of its records, or a refusal and the start of the refused record.
+// What `lachsbrille_log_read` tells C: number 0 and the count of its records, or a refusal and the start of the refused record.
 #[repr(C)]
 #[derive(Clone, Copy)]
 pub struct Log {
@@ -123,39 +118,43 @@ pub struct Log {
     pub start: usize,
 }
 
-// Reads the records to the end of the bytes.
-pub fn read_log(bytes: &[u8], layout: u32, logged: usize) -> Log
-    ensures { result ≡ log_of layout logged bytes.now }
-{
-    if 511 < layout {
-        return Log {
-            number: 47,
-            count: 0,
-            start: 0,
-        };
-    }
-    let places = time_log::places_of(layout);
-    let count = places.count;
-    let mut at = 0usize;
-    let mut n = 0usize;
-    while at < bytes.len() {
-        let rest = &bytes[at..];
-        let number = time_log::refusal(rest, layout, places, logged);
-        if number != 0 {
-            return Log {
-                number,
+impl From<Result<usize, Refused>> for Log {
+    ghost from_gives = { λ answer told. told ≡ log_answer answer };
+
+    fn from(answer: Result<usize, Refused>) -> Log {
+        match answer {
+            Ok(count) => Log {
+                number: 0,
+                count,
+                start: 0,
+            },
+            Err(refused) => Log {
+                number: refused.refusal.into(),
                 count: 0,
-                start: at,
-            };
+                start: refused.start,
+            },
         }
-        at += count + 1 + 5 * rest[count] as usize;
-        n += 1;
     }
-    Log {
-        number: 0,
-        count: n,
-        start: 0,
+}
+
+// Counts the records to the end of the bytes.
+pub fn read_log(bytes: &[u8], layout: u32, logged: usize) -> Result<usize, Refused>
+    ensures { log_answer result ≡ log_of layout logged bytes.now }
+{
+    time_log::judge_layout(layout)?;
+    let places = time_log::places_of(layout);
+    let mut rest = bytes;
+    let mut count = 0usize;
+    // Each record says where the next one starts, so no iterator gives the records.
+    'records: while !rest.is_empty() {
+        let start = bytes.len() - rest.len();
+        match time_log::judge_record(rest, &places, logged) {
+            Ok(length) => rest = &rest[length..],
+            Err(refusal) => return Err(Refused { refusal, start }),
+        }
+        count += 1;
     }
+    Ok(count)
 }
 
 // The functions below do nothing: their contracts are claims, so that the report names them.

@@ -1,18 +1,17 @@
 -- The parts of a record written one after the other. Assumes nothing.
-use mathlib.Core.Path.{◌≡◌, refl, sym, ap, ◌∙◌}
+use mathlib.Core.Path.{◌≡◌, sym, ap, ◌∙◌}
 use mathlib.Core.List.{List, [], ◌∷◌, ◌++◌}
 use Prim.Native.Nat.{ℕ, zero, suc, ◌+◌, ◌-◌, ◌≤◌, ◌<◌}
 use native.Mathlib.Nat.{zero-add}
 use native.Mathlib.Numerals.{add-one}
 use native.Mathlib.Omega.{arith}
 use lib.IntN.{ℤ, pos}
-use lib.ListN.{length, get_or, set, take, drop, length-append}
-use lib.Seq.{sets, drop-cons}
+use lib.ListN.{length, get_or, set, length-append}
+use lib.Seq.{sets}
 use Rattle.wire.specs.Bytes.{bytes_of, bits_of}
 use Rattle.wire.proofs.Width.{bytes-long}
 use Rattle.wire.proofs.Laid.{sets_behind}
 use Rattle.time_log.specs.Layout.{part_width, place_of}
-use Rattle.time_log.specs.Contents.{spaced}
 use Rattle.log_writing.specs.Writing.{field_bits, bytes_before, pairs_from, record_bytes}
 use Rattle.time_log.specs.declared.Fields.{Fields}
 
@@ -63,9 +62,3 @@ pair-laid to after os vs p i n h q =
 pub pairs-done : (os : List ℕ) (vs : List ℤ) (i n : ℕ) → n ≤ i → pairs_from os vs i (n - i) ≡ []
 unfolding pairs_from
 pairs-done os vs i n h = let e : n - i ≡ 0 = omega arith in rw e
-
--- neighbours are the start of a list
-pub spaced-take : (n at : ℕ) (s : List ℕ) → at + n ≤ length s → spaced 1 n s at ≡ take n (drop at s)
-unfolding spaced
-spaced-take zero at s h = refl
-spaced-take (suc n) at s h = rw (drop-cons s at 0 (omega (arith, h)), add-one at, spaced-take n (suc at) s (omega (arith, h)))

@@ -10,8 +10,12 @@ use lib.ListN.{length, take}
 use lib.Seq.{sets}
 use Rattle.time_log.specs.Layout.{record_length}
 use Rattle.time_log.specs.Judging.{one_over, refusal_of_fields}
-use Rattle.log_writing.specs.Writing.{kept_fields, record_bytes, write_refusal, written_as, bytes_after}
+use Rattle.log_writing.specs.Writing.{kept_fields, record_bytes, write_refusal, written_of, written_as, bytes_after}
+use Rattle.std.specs.Prelude.{Err}
+use Rattle.time_log.specs.Refusing.{refusal_number}
 use Rattle.time_log.specs.declared.Fields.{Fields}
+use Rattle.time_log.specs.declared.Refusal.{Refusal}
+use Rattle.time_log.proofs.Refusals.{refusal_some}
 
 pub none-of-three : (n a b : ℕ) → (ltb 255 n || (ltb a n || ltb b n)) ≡ false → (n ≤ 255) × (n ≤ a) × (n ≤ b)
 none-of-three n a b e =
@@ -53,6 +57,11 @@ module _ (to : List ℕ) (layout : ℕ) (f : Fields) (logged : ℕ) (os : List �
       → (record { number = x; length = 0 } ≡ written_as (write_refusal layout f logged os vs n (length to)) (record_length layout n)) × (to ≡ bytes_after to layout f logged os vs n)
   unfolding bytes_after
   not_written x e d = rw (e, ne_eqb x 0 d) (refl, refl)
+
+  -- a refusal that is an answer
+  pub refused-as : (r : Refusal) → write_refusal layout f logged os vs n (length to) ≡ refusal_number r
+      → (written_of (Err r) ≡ written_as (write_refusal layout f logged os vs n (length to)) (record_length layout n)) × (to ≡ bytes_after to layout f logged os vs n)
+  refused-as r e = not_written (refusal_number r) e (refusal_some r)
 
   pub written : write_refusal layout f logged os vs n (length to) ≡ 0
       → (record { number = 0; length = record_length layout n } ≡ written_as (write_refusal layout f logged os vs n (length to)) (record_length layout n)) × (sets to 0 (record_bytes layout (kept_fields layout f) n os vs) ≡ bytes_after to layout f logged os vs n)

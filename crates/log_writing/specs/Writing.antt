@@ -1,10 +1,12 @@
 -- Writing a record: its bytes, and why it is refused. Definitions only.
-use Rattle.std.specs.Prelude.{ℕ, zero, suc, ◌+◌, cond, ◌||◌, List, [], ◌∷◌, ◌++◌, eqb, ltb, ℤ, pos, length, get_or, take}
+use Rattle.std.specs.Prelude.{ℕ, Result, Ok, Err, zero, suc, ◌+◌, cond, ◌||◌, List, [], ◌∷◌, ◌++◌, eqb, ltb, ℤ, pos, length, get_or, take}
 use Rattle.std.proofs.lemmas.List.Edits.{sets}
 use Rattle.wire.specs.Bytes.{bytes_of, bits_of}
 use Rattle.time_log.specs.Layout.{part_width, record_length}
 use Rattle.time_log.specs.Judging.{one_over, refusal_of_fields}
+use Rattle.time_log.specs.Refusing.{refusal_number}
 use Rattle.time_log.specs.declared.Fields.{Fields}
+use Rattle.time_log.specs.declared.Refusal.{Refusal}
 use Rattle.log_writing.specs.declared.Written.{Written}
 
 -- optional field k as it is judged and written: 0 if the layout does not mark it, whatever is passed for it
@@ -61,6 +63,11 @@ write_refusal layout f logged os vs n room =
     (cond (ltb 255 n || (ltb (length os) n || ltb (length vs) n)) 48
     (cond (eqb (refusal_of_fields (kept_fields layout f) (one_over logged (take n os))) 0) (cond (ltb room (record_length layout n)) 46 0)
     (refusal_of_fields (kept_fields layout f) (one_over logged (take n os)))))
+
+-- how C is told what writing a record answers
+abbrev pub written_of : Result ℕ Refusal → Written
+written_of (Ok long) = record { number = 0; length = long }
+written_of (Err refusal) = record { number = refusal_number refusal; length = 0 }
 
 -- what writing answers: the number, and the record's length if it is written
 abbrev pub written_as : ℕ → ℕ → Written

@@ -3,17 +3,16 @@
 
 mod writing;
 
-ghost use Rattle.std.specs.Prelude.{◌≡◌, ℕ, ◌≤◌, ◌<◌, length, get_or};
+ghost use Rattle.std.specs.Prelude.{◌≡◌, length};
 ghost use Rattle.time_log.specs.Layout.{record_length};
-ghost use Rattle.time_log.specs.Contents.{spaced};
 ghost use Rattle.time_log.specs.Judging.{one_over};
-ghost use Rattle.log_writing.specs.Writing.{write_refusal, written_as, bytes_after};
+ghost use Rattle.log_writing.specs.Writing.{write_refusal, written_of, written_as, bytes_after};
 ghost use Rattle.log_writing.specs.Back.{ReadsBack};
 ghost use Rattle.log_writing.specs.Again.{WrittenAgain};
 
-use time_log::Fields;
+use time_log::{Fields, Refusal};
 
-// What writing a record answers: number 0 and its length, or a refusal and 0.
+// What `lachsbrille_log_write_record` tells C: number 0 and its length, or a refusal and 0.
 #[repr(C)]
 #[derive(Clone, Copy)]
 pub struct Written {
@@ -21,25 +20,37 @@ pub struct Written {
     pub length: usize,
 }
 
-// Whether one of the first n ordinals is not below the count of log values.
-fn any_of_list_over(s: &[u8], n: usize, logged: usize) -> bool
-    requires { (n ≤ length s.now) × ((i : ℕ) → get_or s.now i 0 < 256) }
-    ensures { result ≡ one_over logged (spaced 1 n s.now 0) }
+impl From<Result<usize, Refusal>> for Written {
+    ghost from_gives = { λ answer told. told ≡ written_of answer };
+
+    fn from(answer: Result<usize, Refusal>) -> Written {
+        match answer {
+            Ok(length) => Written { number: 0, length },
+            Err(refusal) => Written {
+                number: refusal.into(),
+                length: 0,
+            },
+        }
+    }
+}
+
+// Whether one of the ordinals is not below the count of log values. All are looked at, so that many are compared at once: 255 of them take
+// 18 ns, and 59 by fours as in `time_log::any_over`, where they are five bytes apart.
+fn any_of_list_over(ordinals: &[u8], logged: usize) -> bool
+    ensures { result ≡ one_over logged ordinals.now }
 {
     if 255 < logged {
         return false;
     }
     let limit = logged as u8;
     let mut over = false;
-    let mut i = 0usize;
-    while i < n {
-        over = over | (limit <= s[i]);
-        i += 1;
+    for ordinal in ordinals {
+        over |= limit <= *ordinal;
     }
     over
 }
 
-// Writes a record of the first `count` ordinals and values into the first bytes.
+// Writes a record of the first `count` ordinals and values into the first bytes, and gives its length.
 pub fn write_record(
     to: &mut [u8],
     layout: u32,
@@ -48,40 +59,26 @@ pub fn write_record(
     ordinals: &[u8],
     values: &[i32],
     count: usize,
-) -> Written
-    ensures { (result ≡ written_as (write_refusal layout fields logged ordinals.now values.now count (length to.old)) (record_length layout count)) × (to.new ≡ bytes_after to.old layout fields logged ordinals.now values.now count) }
+) -> Result<usize, Refusal>
+    ensures { (written_of result ≡ written_as (write_refusal layout fields logged ordinals.now values.now count (length to.old)) (record_length layout count)) × (to.new ≡ bytes_after to.old layout fields logged ordinals.now values.now count) }
 {
-    if 511 < layout {
-        return Written {
-            number: 47,
-            length: 0,
-        };
-    }
+    time_log::judge_layout(layout)?;
     if (255 < count) | ((ordinals.len() < count) | (values.len() < count)) {
-        return Written {
-            number: 48,
-            length: 0,
-        };
+        return Err(Refusal::BadCounts);
     }
-    let written = writing::kept(layout, fields);
-    let over = any_of_list_over(ordinals, count, logged);
-    let number = time_log::judged(written, over);
-    if number != 0 {
-        return Written { number, length: 0 };
-    }
+    let kept = writing::kept(layout, fields);
+    let over = any_of_list_over(&ordinals[..count], logged);
+    time_log::judge_fields(kept, over)?;
     let places = time_log::places_of(layout);
-    let at = places.count;
-    let length = at + 1 + 5 * count;
+    let length = places.length_with(count);
     if to.len() < length {
-        return Written {
-            number: 46,
-            length: 0,
-        };
+        return Err(Refusal::NoRoom);
     }
-    writing::put_fields(to, layout, places, written);
+    let at = places.count();
+    writing::put_fields(to, &places, kept);
     to[at] = count as u8;
     writing::put_pairs(to, at + 1, ordinals, values, count);
-    Written { number: 0, length }
+    Ok(length)
 }
 
 // The functions below do nothing: their contracts are claims, so that the report names them.

@@ -1,4 +1,5 @@
-// A set of numbers as a list of bits, eight in a byte: a number in the set is marked. The list is lent.
+// A set of numbers as a list of bits, eight in a byte: a number in the set is marked. The list is lent, and passed as it is: a struct would
+// hold this one slice and nothing else.
 #![tactic(auto)]
 
 ghost use Rattle.std.specs.Prelude.{◌≡◌, ◌||◌, ℕ, ◌*◌, ◌<◌, eqb, length};
@@ -17,8 +18,7 @@ pub fn mark(marks: &mut [u8], i: usize)
     requires { i < 8 * length marks.old }
     ensures { (length marks.new ≡ length marks.old) × ((j : ℕ) → j < 8 * length marks.old → bit_at marks.new j ≡ (eqb j i || bit_at marks.old j)) }
 {
-    let at = i / 8;
-    marks[at] = marks[at] | (1u8 << (i % 8));
+    marks[i / 8] |= 1u8 << (i % 8);
 }
 
 // Marks the number i, and returns whether it was marked before.

@@ -1,9 +1,11 @@
 -- Reading a message: its fields, or refusal 30 or 31. Definitions only.
-use Rattle.std.specs.Prelude.{ℕ, ◌+◌, ◌*◌, ◌/◌, ◌%◌, cond, not, List, eqb, ℤ, pos, length, get_or}
+use Rattle.std.specs.Prelude.{ℕ, ◌+◌, ◌*◌, ◌/◌, ◌%◌, cond, not, List, eqb, ℤ, pos, length, get_or, Result, Ok, Err}
 use Rattle.wire.specs.Bytes.{number_in, signed_of}
 use Rattle.messages.specs.Layout.{is_value_carrier, acknowledge}
 use Rattle.messages.specs.declared.Message.{Message}
-use Rattle.messages.specs.declared.Message.TheVariants.{Value, Acknowledge, NotEight, NoCommand}
+use Rattle.messages.specs.declared.Message.TheVariants.{Value, Acknowledge}
+use Rattle.messages.specs.declared.Unread.{Unread}
+use Rattle.messages.specs.declared.Unread.TheVariants.{NotEight, NoCommand}
 
 -- what is read: number 0 and the fields, or a refusal's number; fields that a message does not have are 0
 pub record Fields : Type 0 where
@@ -28,12 +30,16 @@ acknowledged element ddi errors answered =
 abbrev pub refused : ℕ → Fields
 refused n = record { number = n; command = 0; element = 0; ddi = 0; value = pos 0; errors = 0; answered = 0 }
 
+-- the number of each refusal
+abbrev pub unread_number : Unread → ℕ
+unread_number NotEight = 30
+unread_number NoCommand = 31
+
 -- the number and the fields of each answer
-abbrev pub fields_of : Message → Fields
-fields_of (Value command element ddi value) = valued command element ddi value
-fields_of (Acknowledge element ddi errors answered) = acknowledged element ddi errors answered
-fields_of NotEight = refused 30
-fields_of NoCommand = refused 31
+abbrev pub fields_of : Result Message Unread → Fields
+fields_of (Ok (Value command element ddi value)) = valued command element ddi value
+fields_of (Ok (Acknowledge element ddi errors answered)) = acknowledged element ddi errors answered
+fields_of (Err refusal) = refused (unread_number refusal)
 
 -- the command: the lower four bits of the first byte
 abbrev pub command_in : List ℕ → ℕ

@@ -1,16 +1,20 @@
 -- Writing a message: 31, 32, 33, or exactly eight bytes. Definitions only.
-use Rattle.std.specs.Prelude.{ℕ, not, cond, ◌||◌, List, eqb, ltb, ℤ, length}
+use Rattle.std.specs.Prelude.{ℕ, not, cond, ◌||◌, List, eqb, ltb, ℤ, length, Result, Ok, Err}
 use Rattle.std.proofs.lemmas.List.Edits.{sets}
 use Rattle.messages.specs.Layout.{is_value_carrier, value_bytes, acknowledge_bytes}
-use Rattle.messages.specs.declared.Written.{Written}
-use Rattle.messages.specs.declared.Written.TheVariants.{Done, NoCommand, TooLarge, NoRoom}
+use Rattle.messages.specs.declared.Unwritten.{Unwritten}
+use Rattle.messages.specs.declared.Unwritten.TheVariants.{NoCommand, TooLarge, NoRoom}
+
+-- the number of each refusal
+abbrev pub unwritten_number : Unwritten → ℕ
+unwritten_number NoCommand = 31
+unwritten_number TooLarge = 32
+unwritten_number NoRoom = 33
 
 -- the number of each answer, 0 if the message is written
-abbrev pub number_of : Written → ℕ
-number_of Done = 0
-number_of NoCommand = 31
-number_of TooLarge = 32
-number_of NoRoom = 33
+abbrev pub number_of : Result (Unit {0}) Unwritten → ℕ
+number_of (Ok done) = 0
+number_of (Err refusal) = unwritten_number refusal
 
 -- the refusal of a value message; 0 if its command carries a value, its element number is below 4096 and eight bytes are lent
 unfoldable pub value_refusal : ℕ → ℕ → ℕ → ℕ

@@ -3,3 +3,5 @@ pub mod Records
 pub mod Naming
 pub mod Lists
 pub mod Chained
+pub mod Entries
+pub mod Once

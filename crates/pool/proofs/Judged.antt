@@ -2,18 +2,18 @@
 use mathlib.Core.Path.{◌≡◌, refl, sym, ap, ◌∙◌}
 use mathlib.Core.Bool.{Bool, true, false, cond}
 use mathlib.Core.List.{List}
-use Prim.Native.Nat.{ℕ, suc, ◌+◌, ◌*◌, ◌≤◌, ◌<◌}
+use Prim.Native.Nat.{ℕ, suc, ◌+◌, ◌≤◌, ◌<◌}
 use native.Mathlib.Omega.{arith}
 use borrow.Author.Tests.{lt-ltb, le-ltb, eq-eqb, ne_eqb, eqb-false, ltb-false}
 use lib.Dec.{eqb, ltb}
 use lib.ListN.{length, take}
 use lib.Seq.{length-take-le}
-use Rattle.pool.specs.Answer.{Answer, answer, answer_of}
+use Rattle.pool.specs.Answer.{Answer, answer, refusal_answer}
 use Rattle.pool.specs.Reading.{Scan, records, refused, scan_of, entries_in, counted, read_of}
 use Rattle.pool.specs.Walk.{count_from, entries_of, Starts, Listed}
-use Rattle.pool.specs.declared.Outcome.{Outcome}
-use Rattle.pool.specs.declared.Outcome.TheVariants.{Records, Empty, TooLong, NoMark, Cut, LengthOver, TooMany, TableShort}
-use Rattle.pool.proofs.Steps.{refusal-number, Proper, scan-proper, few-records}
+use Rattle.pool.specs.declared.Refusal.{Refusal}
+use Rattle.pool.specs.declared.Refusal.TheVariants.{Empty, TooLong, NoMark, Cut, LengthOver, TooMany, TableShort}
+use Rattle.pool.proofs.Steps.{bad-number, Proper, scan-proper}
 
 pub read-empty : (p : List ℕ) (room : ℕ) → length p ≡ 0 → read_of p room ≡ answer 1 0
 unfolding read_of
@@ -32,31 +32,32 @@ pub walk-count : (n : ℕ) (s : Scan) → Proper s → answer 0 n ≡ count_from
 walk-count n (records es) h e =
     let z : n ≡ 0 + length es = ap (λ (a : Answer). a.value) e in
     (refl, omega arith)
-walk-count n (refused a) h e = absurd (refusal-number h (sym (ap (λ (a : Answer). a.number) e)))
+walk-count n (refused a) h e = absurd (bad-number h (sym (ap (λ (a : Answer). a.number) e)))
 
-pub walk-counted : (room n : ℕ) (s : Scan) → Proper s → answer 0 n ≡ count_from 0 s → counted room s ≡ cond (ltb 8192 n) (answer 6 0) (cond (ltb room n) (answer 7 n) (answer 0 n))
-walk-counted room n s h e =
-    let w = walk-count n s h e in
-    ap (counted room) w.0 ∙ rw w.1
+-- what reading answers by the count that a walk answers
+pub walk-read : (p : List ℕ) (room n : ℕ) → 0 < length p → length p ≤ 65535 → answer 0 n ≡ count_from 0 (scan_of p)
+    → read_of p room ≡ cond (ltb 8192 n) (answer 6 0) (cond (ltb room n) (answer 7 n) (answer 0 n))
+walk-read p room n some short e =
+    let w = walk-count n (scan_of p) (scan-proper p) e in
+    read_walk p room some short ∙ ap (counted room) w.0 ∙ rw w.1
 
--- an outcome that is no count has a refusal's number
-abbrev pub NoCount : Outcome → Type 0
-NoCount w = (n : ℕ) → w ≡ Records n → ⊥
+-- a refusal has a number
+pub refused-number : (r : Refusal) → (refusal_answer r).number ≡ 0 → ⊥
+refused-number Empty e = omega arith
+refused-number TooLong e = omega arith
+refused-number (NoMark at) e = omega arith
+refused-number (Cut at) e = omega arith
+refused-number (LengthOver at) e = omega arith
+refused-number TooMany e = omega arith
+refused-number (TableShort n) e = omega arith
 
-pub no-count : (w : Outcome) → NoCount w → (answer_of w).number ≡ 0 → ⊥
-no-count (Records n) j f = j n refl
-no-count Empty j f = omega arith
-no-count TooLong j f = omega arith
-no-count (NoMark at) j f = omega arith
-no-count (Cut at) j f = omega arith
-no-count (LengthOver at) j f = omega arith
-no-count TooMany j f = omega arith
-no-count (TableShort n) j f = omega arith
+-- a walk that is refused is refused as reading is
+refused-alike : (room : ℕ) (s : Scan) (r : Refusal) → refusal_answer r ≡ count_from 0 s → refusal_answer r ≡ counted room s
+refused-alike room (refused a) r e = e
+refused-alike room (records es) r e = absurd (refused-number r (ap (λ (a : Answer). a.number) e))
 
--- a walk that answers no count is refused as reading is
-pub walk_refused : (room : ℕ) (s : Scan) (w : Outcome) → NoCount w → answer_of w ≡ count_from 0 s → answer_of w ≡ counted room s
-walk_refused room (refused a) w k e = e
-walk_refused room (records es) w k e = absurd (no-count w k (ap (λ (a : Answer). a.number) e))
+pub walk-refused : (p : List ℕ) (room : ℕ) (r : Refusal) → 0 < length p → length p ≤ 65535 → refusal_answer r ≡ count_from 0 (scan_of p) → refusal_answer r ≡ read_of p room
+walk-refused p room r some short e = refused-alike room (scan_of p) r e ∙ sym (read_walk p room some short)
 
 -- an answer with number 0 is a count
 pub as_read : (a : Answer) → a.number ≡ 0 → a ≡ answer 0 a.value
@@ -84,7 +85,7 @@ read-counted p room n e =
     go (eqb-false (length p) 0 first.0) (ltb-false 65535 (length p) second.0) (scan_of p) (scan-proper p) refl second.1
   where
     go : (length p ≡ 0 → ⊥) → length p ≤ 65535 → (s : Scan) → Proper s → scan_of p ≡ s → answer 0 n ≡ counted room s → Counted p room n
-    go a b (refused y) h x f = absurd (refusal-number h (sym (ap (λ (y : Answer). y.number) f)))
+    go a b (refused y) h x f = absurd (bad-number h (sym (ap (λ (y : Answer). y.number) f)))
     go a b (records es) h x f =
         let l = length es in
         let six = picked (ltb 8192 l) (answer 6 0) (cond (ltb room l) (answer 7 l) (answer 0 l)) n (λ (z : 6 ≡ 0). omega arith) f in
@@ -104,12 +105,6 @@ read-counted p room n e =
       where
         lt_of_le_ne : (length p ≡ 0 → ⊥) → 0 < length p
         lt_of_le_ne z = omega arith
-
--- a record takes at least twelve bytes
-pub read-few : (p : List ℕ) (room n : ℕ) → answer 0 n ≡ read_of p room → 12 * n ≤ length p
-read-few p room n e =
-    let k = read-counted p room n e in
-    omega (arith, k.count, few-records p (entries_in (scan_of p)) k.scanned)
 
 -- a refusal lists nothing
 pub unlisted : (p : List ℕ) (room : ℕ) (starts : List ℕ) → ((read_of p room).number ≡ 0 → ⊥) → Listed p room starts

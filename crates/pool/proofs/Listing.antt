@@ -6,9 +6,9 @@ use native.Mathlib.Numerals.{add-one}
 use native.Mathlib.Omega.{arith}
 use lib.ListN.{length, set, take, length-append, length-set}
 use lib.Seq.{take-suc-set, length-take-le}
+use Rattle.std.specs.Prelude.{Result, Ok}
 use Rattle.records.specs.Extents.{extent_of}
-use Rattle.records.specs.declared.Extent.TheVariants.{Ends}
-use Rattle.records.proofs.Range.{ends-inj}
+use Rattle.records.specs.declared.Flaw.{Flaw}
 use Rattle.pool.specs.Answer.{Answer, answer}
 use Rattle.pool.specs.Reading.{Entry, entry_at, records, scan_of}
 use Rattle.pool.specs.Walk.{count_from, entries_after, entries_of, Starts}
@@ -29,12 +29,13 @@ unfolding scan_of entries_of entries_after
 listing_start p starts es e =
     record { rest = es; remaining = record { turns = length p; enough = omega arith; reads = e }; whole = refl }
 
-pub listing-more : (p starts : List ℕ) (at n end : ℕ) → at < length p → n < length starts → extent_of p at ≡ Ends end
+pub listing-more : (p starts : List ℕ) (at n end : ℕ) → at < length p → n < length starts → extent_of p at ≡ Ok end
     → Listing p starts at n → Listing p (set starts n at) end (n + 1)
 listing-more p starts at n end h room x f es e =
     let left = f es e in
     let next = next_of p at left.rest h left.remaining in
-    let same : next.end ≡ end = ends-inj next.end end (sym next.ends ∙ x) in
+    let is : ◌≡◌ {A = Result ℕ Flaw} (Ok next.end) (Ok end) = sym next.ends ∙ x in
+    let same : next.end ≡ end = cc in
     record {
       rest = next.left;
       remaining = subst (λ (z : ℕ). Remaining p z next.left) same next.rest;

@@ -7,13 +7,13 @@ use native.Mathlib.Decide.{dec_lt}
 use native.Mathlib.Omega.{arith}
 use lib.Dec.{leb}
 use lib.ListN.{length, get_or}
+use Rattle.std.specs.Prelude.{Option, Some, None, Ok}
 use Rattle.records.specs.Layout.{mark_code, mark_of, three}
 use Rattle.records.specs.Extents.{marked_end, extent_of}
 use Rattle.records.specs.declared.Kind.TheVariants.{Dvc, Det, Dpd, Dpt, Dvp}
-use Rattle.records.specs.declared.Mark.{Mark}
-use Rattle.records.specs.declared.Mark.TheVariants.{Of, Unknown}
-use Rattle.records.specs.declared.Extent.TheVariants.{Ends, Cut}
-use Rattle.records.proofs.Range.{cut-ends, unmarked-ends, guarded}
+use Rattle.records.specs.declared.Kind.{Kind}
+use Rattle.records.specs.declared.Flaw.TheVariants.{NoMark, Cut}
+use Rattle.records.proofs.Range.{refused-ends, guarded}
 use Rattle.pool.specs.Reading.{Entry, entry_at, scan_of}
 use Rattle.pool.specs.Walk.{entries_after, entries_of, Divided}
 use Rattle.pool.proofs.Steps.{Remaining, next_of, none_left, few-records}
@@ -54,7 +54,7 @@ entries-more p (x ∷ l) at end = from_more p x l at end
 
 -- a record from a place up to another: a whole one, which lies in the pool
 pub record Stretch (p : List ℕ) (at end : ℕ) : Type 0 where
-  pub ends : extent_of p at ≡ Ends end
+  pub ends : extent_of p at ≡ Ok end
   pub later : at + 12 ≤ end
   pub within : end ≤ length p
 
@@ -114,13 +114,13 @@ module _ (p starts : List ℕ) (h : Divided p starts) where
   unfolding extent_of
   starts-marked i l z = go (mark_of (three p (get_or starts i 0))) refl z
     where
-      go : (m : Mark) → mark_of (three p (get_or starts i 0)) ≡ m → mark_code m ≡ 0 → ⊥
-      go (Of Dvc) e n = omega arith
-      go (Of Det) e n = omega arith
-      go (Of Dpd) e n = omega arith
-      go (Of Dpt) e n = omega arith
-      go (Of Dvp) e n = omega arith
-      go Unknown e n =
+      go : (m : Option Kind) → mark_of (three p (get_or starts i 0)) ≡ m → mark_code m ≡ 0 → ⊥
+      go (Some Dvc) e n = omega arith
+      go (Some Det) e n = omega arith
+      go (Some Dpd) e n = omega arith
+      go (Some Dpt) e n = omega arith
+      go (Some Dvp) e n = omega arith
+      go None e n =
           let end = get_or starts (suc i) 0 in
-          let f = guarded (leb (get_or starts i 0 + 3) (length p)) (marked_end (mark_of (three p (get_or starts i 0))) p (get_or starts i 0 + 3)) Cut end cut-ends (starts-stretch i l).ends in
-          unmarked-ends end (sym (ap (λ (m : Mark). marked_end m p (get_or starts i 0 + 3)) e) ∙ f.1)
+          let f = guarded (leb (get_or starts i 0 + 3) (length p)) (marked_end (mark_of (three p (get_or starts i 0))) p (get_or starts i 0 + 3)) Cut end (starts-stretch i l).ends in
+          refused-ends NoMark end (sym (ap (λ (m : Option Kind). marked_end m p (get_or starts i 0 + 3)) e) ∙ f.1)

@@ -8,9 +8,11 @@ use borrow.Author.Tests.{lt-ltb, le-ltb}
 use native.Mathlib.Decide.{dec_lt}
 use lib.Dec.{ltb}
 use lib.ListN.{length}
+use Rattle.std.specs.Prelude.{Result, Ok, Err}
 use Rattle.records.specs.Extents.{extent_of}
-use Rattle.records.specs.declared.Extent.{Extent}
-use Rattle.records.specs.declared.Extent.TheVariants.{Ends, NoMark, Cut, LengthOver}
+use Rattle.records.specs.Answer.{extent_answer}
+use Rattle.records.specs.declared.Flaw.{Flaw}
+use Rattle.records.specs.declared.Flaw.TheVariants.{NoMark, Cut, LengthOver}
 use Rattle.records.proofs.Range.{extent-ends}
 use Rattle.pool.specs.Answer.{Answer, answer}
 use Rattle.pool.specs.Reading.{Entry, entry_at, Scan, records, refused, onto, turn, more, scan_from, scan_of}
@@ -25,31 +27,37 @@ unfolding scan_from
 scan-end zero p at h = refl
 scan-end (suc t) p at h = rw (le-ltb at (length p) h)
 
--- what is told of a bad record
-pub data Refusal : Answer → Type 0 where
-  unmarked : (at : ℕ) → Refusal (answer 3 at)
-  cut : (at : ℕ) → Refusal (answer 4 at)
-  over : (at : ℕ) → Refusal (answer 5 at)
+-- a flaw has a number
+pub flaw-number : (at : ℕ) (flaw : Flaw) → (extent_answer at (Err flaw)).number ≡ 0 → ⊥
+flaw-number at NoMark e = omega arith
+flaw-number at Cut e = omega arith
+flaw-number at (LengthOver place) e = omega arith
 
-pub refusal-number : {a : Answer} → Refusal a → a.number ≡ 0 → ⊥
-refusal-number (unmarked at) e = let z : ◌≡◌ {A = ℕ} 3 0 = e in omega arith
-refusal-number (cut at) e = let z : ◌≡◌ {A = ℕ} 4 0 = e in omega arith
-refusal-number (over at) e = let z : ◌≡◌ {A = ℕ} 5 0 = e in omega arith
+-- what is told of a bad record
+pub data BadRecord : Answer → Type 0 where
+  unmarked : (at : ℕ) → BadRecord (answer 3 at)
+  cut : (at : ℕ) → BadRecord (answer 4 at)
+  over : (at : ℕ) → BadRecord (answer 5 at)
+
+pub bad-number : {a : Answer} → BadRecord a → a.number ≡ 0 → ⊥
+bad-number (unmarked at) e = let z : ◌≡◌ {A = ℕ} 3 0 = e in omega arith
+bad-number (cut at) e = let z : ◌≡◌ {A = ℕ} 4 0 = e in omega arith
+bad-number (over at) e = let z : ◌≡◌ {A = ℕ} 5 0 = e in omega arith
 
 -- a walk is refused with nothing else
 abbrev pub Proper : Scan → Type 0
 Proper (records es) = Unit {0}
-Proper (refused a) = Refusal a
+Proper (refused a) = BadRecord a
 
 onto-proper : (e : Entry) (s : Scan) → Proper s → Proper (onto e s)
 onto-proper e (records es) h = tt
 onto-proper e (refused a) h = h
 
-turn-proper : (rest : ℕ → Scan) → ((at : ℕ) → Proper (rest at)) → (p : List ℕ) (at : ℕ) (x : Extent) → Proper (turn rest p at x)
-turn-proper rest h p at (Ends end) = onto-proper (entry_at p at end) (rest end) (h end)
-turn-proper rest h p at NoMark = unmarked _
-turn-proper rest h p at Cut = cut _
-turn-proper rest h p at (LengthOver place) = over _
+turn-proper : (rest : ℕ → Scan) → ((at : ℕ) → Proper (rest at)) → (p : List ℕ) (at : ℕ) (x : Result ℕ Flaw) → Proper (turn rest p at x)
+turn-proper rest h p at (Ok end) = onto-proper (entry_at p at end) (rest end) (h end)
+turn-proper rest h p at (Err NoMark) = unmarked _
+turn-proper rest h p at (Err Cut) = cut _
+turn-proper rest h p at (Err (LengthOver place)) = over _
 
 more-proper : (b : Bool) (s : Scan) → Proper s → Proper (more b s)
 more-proper true s h = h
@@ -80,7 +88,7 @@ module _ (p : List ℕ) (whole : Answer) (at n : ℕ) (h : at < length p) where
   last_turn zero l e = absurd (omega arith)
   last_turn (suc t) l e = (t, l, ap (count_from n) (sym (scan-turn t p at h)) ∙ e)
 
-  pub advance : (e : ℕ) → extent_of p at ≡ Ends e → Standing p whole at n → Standing p whole e (n + 1)
+  pub advance : (e : ℕ) → extent_of p at ≡ Ok e → Standing p whole at n → Standing p whole e (n + 1)
   advance e x st =
       let s = last_turn st.turns st.enough st.answers in
       let r = extent-ends p at e x in
@@ -90,7 +98,7 @@ module _ (p : List ℕ) (whole : Answer) (at n : ℕ) (h : at < length p) where
         answers = sym (count-onto n (entry_at p at e) (scan_from s.0 p e)) ∙ (rw x at s.2);
       }
 
-  pub stopped : (x : Extent) (a : Answer) → extent_of p at ≡ x → ((rest : ℕ → Scan) → turn rest p at x ≡ refused a) → Standing p whole at n → a ≡ whole
+  pub stopped : (x : Result ℕ Flaw) (a : Answer) → extent_of p at ≡ x → ((rest : ℕ → Scan) → turn rest p at x ≡ refused a) → Standing p whole at n → a ≡ whole
   stopped x a e t st =
       let s = last_turn st.turns st.enough st.answers in
       let f : turn (scan_from s.0 p) p at (extent_of p at) ≡ refused a = ap (turn (scan_from s.0 p) p at) e ∙ t (scan_from s.0 p) in
@@ -110,7 +118,7 @@ pub record Remaining (p : List ℕ) (at : ℕ) (rs : List Entry) : Type 0 where
 -- its next record, and what is left behind it
 pub record Next (p : List ℕ) (at : ℕ) (rs : List Entry) : Type 0 where
   pub end : ℕ
-  pub ends : extent_of p at ≡ Ends end
+  pub ends : extent_of p at ≡ Ok end
   pub left : List Entry
   pub first : rs ≡ entry_at p at end ∷ left
   pub later : at + 12 ≤ end
@@ -120,7 +128,7 @@ pub record Next (p : List ℕ) (at : ℕ) (rs : List Entry) : Type 0 where
 pub next_of : (p : List ℕ) (at : ℕ) (rs : List Entry) → at < length p → Remaining p at rs → Next p at rs
 next_of p at rs h m = by-turns m.turns m.enough m.reads
   where
-    by-scan : (t e : ℕ) → length p ≤ at + suc t → extent_of p at ≡ Ends e → (s : Scan) → scan_from t p e ≡ s → onto (entry_at p at e) s ≡ records rs → Next p at rs
+    by-scan : (t e : ℕ) → length p ≤ at + suc t → extent_of p at ≡ Ok e → (s : Scan) → scan_from t p e ≡ s → onto (entry_at p at e) s ≡ records rs → Next p at rs
     by-scan t e l x (records es) y g =
         let r = extent-ends p at e x in
         record {
@@ -137,11 +145,9 @@ next_of p at rs h m = by-turns m.turns m.enough m.reads
     refusal : (a : Answer) → refused a ≡ records rs → ⊥
     refusal a g = let z : ◌≡◌ {A = ℕ} 0 1 = cc in omega arith
 
-    by-extent : (t : ℕ) → length p ≤ at + suc t → (x : Extent) → extent_of p at ≡ x → turn (scan_from t p) p at x ≡ records rs → Next p at rs
-    by-extent t l (Ends e) q g = by-scan t e l q (scan_from t p e) refl g
-    by-extent t l NoMark q g = absurd (refusal _ g)
-    by-extent t l Cut q g = absurd (refusal _ g)
-    by-extent t l (LengthOver o) q g = absurd (refusal _ g)
+    by-extent : (t : ℕ) → length p ≤ at + suc t → (x : Result ℕ Flaw) → extent_of p at ≡ x → turn (scan_from t p) p at x ≡ records rs → Next p at rs
+    by-extent t l (Ok e) q g = by-scan t e l q (scan_from t p e) refl g
+    by-extent t l (Err flaw) q g = absurd (refusal _ g)
 
     by-turns : (t : ℕ) → length p ≤ at + t → scan_from t p at ≡ records rs → Next p at rs
     by-turns zero l e = absurd (omega arith)

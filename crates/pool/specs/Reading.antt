@@ -1,11 +1,10 @@
 -- Reading a pool: document 01, "Reading a pool". Definitions only.
-use Rattle.std.specs.Prelude.{ℕ, zero, suc, ◌-◌, Bool, true, false, cond, List, [], ◌∷◌, eqb, ltb, length, get_or}
+use Rattle.std.specs.Prelude.{ℕ, zero, suc, ◌-◌, Bool, true, false, cond, List, [], ◌∷◌, eqb, ltb, length, get_or, Result, Ok, Err}
 use Rattle.records.specs.Layout.{mark_code, mark_of, three}
 use Rattle.records.specs.Extents.{extent_of}
 use Rattle.records.specs.Answer.{extent_answer}
 use Rattle.records.specs.Places.{id_of, parent_id_of}
-use Rattle.records.specs.declared.Extent.{Extent}
-use Rattle.records.specs.declared.Extent.TheVariants.{Ends, NoMark, Cut, LengthOver}
+use Rattle.records.specs.declared.Flaw.{Flaw}
 use Rattle.pool.specs.Answer.{Answer, answer}
 
 -- an entry of the working table: a record's start, length, kind, ID and parent ID
@@ -39,11 +38,9 @@ onto e (records es) = records (e ∷ es)
 onto e (refused a) = refused a
 
 -- one turn of the walk: it goes on after a record, or is refused with the number and place of what is wrong with it
-abbrev pub turn : (ℕ → Scan) → List ℕ → ℕ → Extent → Scan
-turn rest p at (Ends end) = onto (entry_at p at end) (rest end)
-turn rest p at NoMark = refused (extent_answer at NoMark)
-turn rest p at Cut = refused (extent_answer at Cut)
-turn rest p at (LengthOver place) = refused (extent_answer at (LengthOver place))
+abbrev pub turn : (ℕ → Scan) → List ℕ → ℕ → Result ℕ Flaw → Scan
+turn rest p at (Ok end) = onto (entry_at p at end) (rest end)
+turn rest p at (Err flaw) = refused (extent_answer at (Err flaw))
 
 -- what is found from a place on, or no record if the pool ends there
 abbrev pub more : Bool → Scan → Scan

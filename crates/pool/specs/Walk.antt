@@ -29,10 +29,14 @@ pub record Divided (p starts : List ℕ) : Type 0 where
 unfoldable pub Starts : List ℕ → List ℕ → Type 0
 Starts p starts = (es : List Entry) → scan_of p ≡ records es → (length es < length starts) × (entries_of p (take (suc (length es)) starts) ≡ es)
 
--- a list is long enough for every record that a pool can have: a record takes at least twelve bytes, and a pool of more than 65,535
--- bytes is not walked
+-- a list of n numbers is long enough for every record that a pool can have: a record takes at least twelve bytes, the starts are
+-- followed by the end of the last record, and a pool of more than 65,535 bytes is not walked
+abbrev pub Suffices : ℕ → List ℕ → Type 0
+Suffices n p = length p ≤ 65535 → length p < 12 * n
+
+-- the same of a list
 abbrev pub Reaches : List ℕ → List ℕ → Type 0
-Reaches starts p = length p ≤ 65535 → length p < 12 * length starts
+Reaches starts p = Suffices (length starts) p
 
 -- the list after reading a pool for a table of room entries: if the pool is read, it begins with the starts of the records; if it is
 -- refused, its contents are free

@@ -1,21 +1,21 @@
 -- What one pass over the records knows of device elements, record by record. Assumes nothing.
-use mathlib.Core.Path.{◌≡◌, refl, sym, ap, ◌∙◌, subst}
-use mathlib.Core.Bool.{Bool, true, false, not, ◌&&◌, ◌||◌, true≢false}
-use mathlib.Core.List.{List}
+use mathlib.Core.Path.{◌≡◌, sym, ap, ◌∙◌, subst}
+use mathlib.Core.Bool.{Bool, true, false, ◌&&◌, ◌||◌, true≢false}
 use Prim.Native.Nat.{ℕ, suc, ◌+◌, ◌*◌, ◌<◌, ◌≤◌}
 use native.Mathlib.Decide.{ℕ_discrete}
 use native.Mathlib.Omega.{arith}
-use borrow.Author.Tests.{eq-eqb, ltb-false, not-true}
+use borrow.Author.Tests.{eq-eqb, ltb-false}
 use lib.Dec.{eqb, ltb}
 use lib.ListN.{length}
 use Rattle.marks.specs.Bits.{bit_at}
+use Rattle.records.specs.Layout.{mark_code}
 use Rattle.records.specs.declared.DeviceElement.{DeviceElement}
 use Rattle.views.specs.Fields.{element_of}
-use Rattle.pool.specs.Reading.{Entry}
-use Rattle.pool.specs.Walk.{entries_of}
 use Rattle.pool.proofs.Starts.{entries-long}
 use Rattle.naming.specs.Records.{start_at, kind_at}
-use Rattle.naming.specs.Naming.{named, kind_of, parent_of, climb}
+use Rattle.naming.specs.Naming.{named, kind_of}
+use Rattle.naming.specs.Entries.{entries_in}
+use Rattle.naming.specs.declared.RecordList.{RecordList}
 use Rattle.naming.specs.Lists.{Blank}
 use Rattle.rules.specs.Table.{repeats, element_key}
 use Rattle.rules.proofs.Repeats.{element-key}
@@ -23,141 +23,131 @@ use Rattle.chains.specs.Steps.{Falling}
 use Rattle.chains.proofs.Noting.{noted-start, noted_more, noted-repeats, element-passed}
 use Rattle.chains.proofs.Falling.{falling-start, falling-other, falling-out, falling-on, falling-endless}
 use Rattle.field_rules.proofs.Clearing.{clear_both}
+use Rattle.record_breaches.specs.declared.element.ElementRecord.{ElementRecord}
+use Rattle.record_breaches.specs.Elements.{pool_of, around, repeats_number, never_ends}
+use Rattle.record_breaches.proofs.Elements.{inside, fields-read}
+use Rattle.pool_breaches.specs.declared.sight.Sight.{Sight}
 use Rattle.pool_breaches.specs.Passing.{BreachesMarked, Sighted}
 
-module _ (p starts : List ℕ) where
-  pub sighted-start : (numbers again endless : List ℕ) → 4096 ≤ 8 * length numbers → length starts ≤ 8 * length again → length starts ≤ 8 * length endless
-      → Blank numbers → Blank again → Blank endless → Sighted p starts 0 false numbers again endless
-  sighted-start numbers again endless room a b noted repeating circling =
+behind : (i : ℕ) → suc i + 1 ≡ suc (i + 1)
+behind i = omega arith
+
+module _ (records : RecordList) where
+  pub sighted-start : (s : Sight) → s.full ≡ false → 4096 ≤ 8 * length s.numbers.now → length records.starts.now ≤ 8 * length s.again.now → length records.starts.now ≤ 8 * length s.endless.now
+      → Blank s.numbers.now → Blank s.again.now → Blank s.endless.now → Sighted records 0 s
+  sighted-start s plain room a b noted repeating circling =
       record {
         room = room;
         again_room = a;
         endless_room = b;
-        marked = λ e. absurd (true≢false (sym e));
+        marked = λ e. absurd (true≢false (sym e ∙ plain));
         blank = λ e. (repeating, circling);
-        noted = λ e. noted-start 4096 (element_key p (entries_of p starts)) numbers noted;
-        falling = λ e. falling-start p (entries_of p starts);
+        noted = λ e. noted-start 4096 (element_key records.pool.now (entries_in records)) s.numbers.now noted;
+        falling = λ e. falling-start records.pool.now (entries_in records);
       }
 
-  behind : (i : ℕ) → suc i + 1 ≡ suc (i + 1)
-  behind i = omega arith
+  -- what was seen in lists of entries does not matter
+  pub sighted-seen : (i : ℕ) (s t : Sight) → t.numbers ≡ s.numbers → t.again ≡ s.again → t.endless ≡ s.endless → t.full ≡ s.full → Sighted records i s → Sighted records i t
+  sighted-seen i s t a b c d w =
+      record {
+        room = rw a w.room;
+        again_room = rw b w.again_room;
+        endless_room = rw c w.endless_room;
+        marked = rw (b, c, d) w.marked;
+        blank = rw (b, c, d) w.blank;
+        noted = rw (a, d) w.noted;
+        falling = rw d w.falling;
+      }
 
   -- a record that is no device element
-  pub sighted-other : (i : ℕ) (full : Bool) (numbers again endless : List ℕ) → Sighted p starts i full numbers again endless → (kind_at (entries_of p starts) i ≡ 2 → ⊥)
-      → Sighted p starts (i + 1) full numbers again endless
-  sighted-other i full numbers again endless w other =
-      let es = entries_of p starts in
+  pub sighted-other : (i : ℕ) (s : Sight) → Sighted records i s → (kind_at (entries_in records) i ≡ 2 → ⊥) → Sighted records (i + 1) s
+  sighted-other i s w other =
+      let p = records.pool.now in
+      let es = entries_in records in
       record {
         room = w.room;
         again_room = w.again_room;
         endless_room = w.endless_room;
         marked = w.marked;
         blank = w.blank;
-        noted = λ e. (element-passed 4096 p es i numbers (w.noted e) other).1;
+        noted = λ e. (element-passed 4096 p es i s.numbers.now (w.noted e) other).1;
         falling = λ e. subst (Falling p es) (behind i) (falling-other p es i (w.falling e) other);
       }
 
-  -- a device element whose number is over 4095 has all records marked before rule 8 is judged
-  module _ (i : ℕ) (l : suc i < length starts) (own : kind_at (entries_of p starts) i ≡ 2) (e : DeviceElement) (is : e ≡ element_of p (start_at (entries_of p starts) i))
-      (before : Bool) (numbers again endless : List ℕ) (w : Sighted p starts i before numbers again endless) (over : Bool) (again' endless' : List ℕ)
-      (marked : over ≡ true → BreachesMarked p starts again' endless') (plain : over ≡ false → (before ≡ false) × (ltb 4095 e.number ≡ false)) where
-    pub number-low : over ≡ false → e.number < 4096
-    number-low f = omega (arith, ltb-false 4095 e.number (plain f).1)
+module _ (e : ElementRecord) where
+  number_is : element_key (pool_of e) (around e) e.i ≡ suc e.fields.number
+  number_is = element-key (pool_of e) (around e) e.i e.is_element ∙ ap (λ (x : DeviceElement). suc x.number) (sym (fields-read e))
 
-    number_is : element_key p (entries_of p starts) i ≡ suc e.number
-    number_is = element-key p (entries_of p starts) i own ∙ ap (λ (x : DeviceElement). suc x.number) (sym is)
+  by_number : repeats (element_key (pool_of e) (around e)) (element_key (pool_of e) (around e) e.i) e.i (length (around e)) ≡ repeats_number e
+  by_number = ap (λ (x : ℕ). repeats (element_key (pool_of e) (around e)) x e.i (length (around e))) number_is
 
-    -- rule 8
-    pub repeated-is : (r : Bool) → (over ≡ true → r ≡ bit_at again' i) → (over ≡ false → r ≡ bit_at numbers e.number)
-        → r ≡ repeats (element_key p (entries_of p starts)) (suc e.number) i (length (entries_of p starts))
-    repeated-is r by-marks by-numbers = go over refl
-      where
-        es : List Entry
-        es = entries_of p starts
+  -- all records have been marked
+  module _ (s : Sight) (marked : BreachesMarked (pool_of e) e.names.now.records.starts.now s.again.now s.endless.now) where
+    pub marked-repeats : bit_at s.again.now e.i ≡ repeats_number e
+    marked-repeats = marked.repeating e.i (inside e) e.is_element ∙ by_number
 
-        go : (b : Bool) → over ≡ b → r ≡ repeats (element_key p es) (suc e.number) i (length es)
-        go true f = by-marks f ∙ (marked f).repeating i l own ∙ ap (λ (x : ℕ). repeats (element_key p es) x i (length es)) number_is
-        go false f =
-            by-numbers f
-            ∙ noted-repeats 4096 (element_key p es) i numbers (w.noted (plain f).0) e.number number_is (number-low f) (length es) (omega (arith, entries-long p starts))
-            ∙ ap (λ (x : ℕ). repeats (element_key p es) x i (length es)) number_is
+    pub marked-circles : bit_at s.endless.now e.i ≡ never_ends e
+    marked-circles = marked.circling e.i (inside e)
 
-  -- a device element, its parent and that one's kind; and what has been found out of all records
-  module _ (i : ℕ) (l : suc i < length starts) (own : kind_at (entries_of p starts) i ≡ 2) (e : DeviceElement) (is : e ≡ element_of p (start_at (entries_of p starts) i))
-      (parent kind : ℕ) (parent_is : parent ≡ named (entries_of p starts) e.parent) (kind-is : kind ≡ kind_of (entries_of p starts) parent)
-      (before : Bool) (numbers again endless : List ℕ) (w : Sighted p starts i before numbers again endless)
-      (unusual full : Bool) (unusual-is : unusual ≡ (ltb 4095 e.number || (eqb kind 2 && ltb i parent))) (again' endless' : List ℕ)
-      (marked : full ≡ true → BreachesMarked p starts again' endless') (plain : full ≡ false → (before ≡ false) × (unusual ≡ false) × Blank again' × Blank endless') where
-    usual : full ≡ false → (ltb 4095 e.number ≡ false) × (eqb kind 2 && ltb i parent ≡ false)
-    usual f = clear_both (ltb 4095 e.number) (eqb kind 2 && ltb i parent) (sym unusual-is ∙ (plain f).1)
-
-    falls : full ≡ false → Falling p (entries_of p starts) (suc i + 1)
-    falls f = go (ℕ_discrete kind 2)
-      where
-        es : List Entry
-        es = entries_of p starts
-
-        names : parent ≡ named es (element_of p (start_at es i)).parent
-        names = parent_is ∙ ap (λ (x : DeviceElement). named es x.parent) is
-
-        go : Dec (kind ≡ 2) → Falling p es (suc i + 1)
-        go (yes k) =
-            let low : ltb i parent ≡ false = rw (eq-eqb kind 2 k) at (usual f).1 in
-            falling-on p es i (w.falling (plain f).0) parent own names (sym kind-is ∙ k) (ltb-false i parent low)
-        go (no k) = falling-out p es i (w.falling (plain f).0) parent own names (λ (q : kind_of es parent ≡ 2). k (kind-is ∙ q))
-
-    key-is : element_key p (entries_of p starts) i ≡ suc e.number
-    key-is = element-key p (entries_of p starts) i own ∙ ap (λ (x : DeviceElement). suc x.number) (sym is)
-
-    -- rule 9
-    pub circling-is : (r : Bool) → (full ≡ true → r ≡ bit_at endless' i) → (full ≡ false → r ≡ false)
-        → r ≡ not (eqb (climb (parent_of p (entries_of p starts)) (length (entries_of p starts)) (suc i)) 0)
-    circling-is r by-marks by-parents = go full refl
-      where
-        es : List Entry
-        es = entries_of p starts
-
-        go : (b : Bool) → full ≡ b → r ≡ not (eqb (climb (parent_of p es) (length es) (suc i)) 0)
-        go true f = by-marks f ∙ (marked f).circling i l
-        go false f = by-parents f ∙ sym (falling-endless p es (suc i + 1) (suc i) (falls f) (omega arith) (omega (arith, entries-long p starts)))
-
-    pub sighted-element : length again' ≡ length again → length endless' ≡ length endless → (numbers' : List ℕ) → length numbers' ≡ length numbers
-        → (full ≡ false → (j : ℕ) → j < 8 * length numbers → bit_at numbers' j ≡ (eqb j e.number || bit_at numbers j)) → Sighted p starts (i + 1) full numbers' again' endless'
-    sighted-element a b numbers' n adds =
+    pub marked-sighted : s.full ≡ true → 4096 ≤ 8 * length s.numbers.now → length e.names.now.records.starts.now ≤ 8 * length s.again.now → length e.names.now.records.starts.now ≤ 8 * length s.endless.now
+        → Sighted e.names.now.records (e.i + 1) s
+    marked-sighted full room a b =
         record {
-          room = omega (arith, w.room, n);
-          again_room = omega (arith, w.again_room, a);
-          endless_room = omega (arith, w.endless_room, b);
-          marked = marked;
-          blank = λ f. ((plain f).2, (plain f).3);
-          noted = λ f. noted_more 4096 (element_key p (entries_of p starts)) i numbers (w.noted (plain f).0) e.number key-is w.room numbers' (adds f);
-          falling = λ f. subst (Falling p (entries_of p starts)) (behind i) (falls f);
+          room = room;
+          again_room = a;
+          endless_room = b;
+          marked = λ f. marked;
+          blank = λ f. absurd (true≢false (sym full ∙ f));
+          noted = λ f. absurd (true≢false (sym full ∙ f));
+          falling = λ f. absurd (true≢false (sym full ∙ f));
         }
 
   -- a usual device element, before any record is marked: its number is noted, and its chain of parents ends
-  module _ (i : ℕ) (l : suc i < length starts) (own : kind_at (entries_of p starts) i ≡ 2) (e : DeviceElement) (is : e ≡ element_of p (start_at (entries_of p starts) i))
-      (parent kind : ℕ) (parent_is : parent ≡ named (entries_of p starts) e.parent) (kind-is : kind ≡ kind_of (entries_of p starts) parent)
-      (before : Bool) (numbers again endless : List ℕ) (w : Sighted p starts i before numbers again endless)
-      (unusual : Bool) (unusual-is : unusual ≡ (ltb 4095 e.number || (eqb kind 2 && ltb i parent))) (none : not (before || unusual) ≡ true) where
-    neither : (before ≡ false) × (unusual ≡ false)
-    neither = clear_both before unusual (not-true (before || unusual) none)
+  module _ (s : Sight) (w : Sighted e.names.now.records e.i s) (unusual : Bool) (unusual-is : unusual ≡ (ltb 4095 e.fields.number || (eqb (mark_code e.kind) 2 && ltb e.i e.parent)))
+      (none : s.full || unusual ≡ false) where
+    pub plain : (s.full ≡ false) × (unusual ≡ false)
+    plain = clear_both s.full unusual none
 
-    low : ltb 4095 e.number ≡ false
-    low = (clear_both (ltb 4095 e.number) (eqb kind 2 && ltb i parent) (sym unusual-is ∙ neither.1)).0
+    usual : (ltb 4095 e.fields.number ≡ false) × (eqb (mark_code e.kind) 2 && ltb e.i e.parent ≡ false)
+    usual = clear_both (ltb 4095 e.fields.number) (eqb (mark_code e.kind) 2 && ltb e.i e.parent) (sym unusual-is ∙ plain.1)
 
-    never : {X : Type 0} → false ≡ true → X
-    never t = absurd (true≢false (sym t))
+    number-low : e.fields.number < 4096
+    number-low = omega (arith, ltb-false 4095 e.fields.number usual.0)
 
-    pub usual-low : e.number < 8 * length numbers
-    usual-low = omega (arith, ltb-false 4095 e.number low, w.room)
+    pub usual-low : e.fields.number < 8 * length s.numbers.now
+    usual-low = omega (arith, number-low, w.room)
 
-    pub usual-repeated : (r : Bool) → r ≡ bit_at numbers e.number → r ≡ repeats (element_key p (entries_of p starts)) (suc e.number) i (length (entries_of p starts))
-    usual-repeated r by-numbers = repeated-is i l own e is before numbers again endless w false again endless never (λ _. (neither.0, low)) r never (λ _. by-numbers)
+    -- rule 8
+    pub usual-repeats : bit_at s.numbers.now e.fields.number ≡ repeats_number e
+    usual-repeats =
+        noted-repeats 4096 (element_key (pool_of e) (around e)) e.i s.numbers.now (w.noted plain.0) e.fields.number number_is number-low (length (around e)) (omega (arith, entries-long (pool_of e) e.names.now.records.starts.now, inside e))
+        ∙ by_number
 
-    pub usual-circling : false ≡ not (eqb (climb (parent_of p (entries_of p starts)) (length (entries_of p starts)) (suc i)) 0)
-    usual-circling =
-        circling-is i l own e is parent kind parent_is kind-is before numbers again endless w unusual false unusual-is again endless never (λ _. (neither.0, neither.1, (w.blank neither.0).0, (w.blank neither.0).1)) false never (λ _. refl)
+    falls : Falling (pool_of e) (around e) (suc e.i + 1)
+    falls = go (ℕ_discrete (mark_code e.kind) 2)
+      where
+        names : e.parent ≡ named (around e) (element_of (pool_of e) (start_at (around e) e.i)).parent
+        names = e.parent_named ∙ ap (λ (x : DeviceElement). named (around e) x.parent) (fields-read e)
 
-    pub usual-sighted : (numbers' : List ℕ) → length numbers' ≡ length numbers → ((j : ℕ) → j < 8 * length numbers → bit_at numbers' j ≡ (eqb j e.number || bit_at numbers j)) → Sighted p starts (i + 1) false numbers' again endless
-    usual-sighted numbers' n adds =
-        sighted-element i l own e is parent kind parent_is kind-is before numbers again endless w unusual false unusual-is again endless never (λ _. (neither.0, neither.1, (w.blank neither.0).0, (w.blank neither.0).1)) refl refl numbers' n (λ _. adds)
+        go : Dec (mark_code e.kind ≡ 2) → Falling (pool_of e) (around e) (suc e.i + 1)
+        go (yes k) =
+            let low : ltb e.i e.parent ≡ false = rw (eq-eqb (mark_code e.kind) 2 k) at usual.1 in
+            falling-on (pool_of e) (around e) e.i (w.falling plain.0) e.parent e.is_element names (sym e.kind_told ∙ k) (ltb-false e.i e.parent low)
+        go (no k) = falling-out (pool_of e) (around e) e.i (w.falling plain.0) e.parent e.is_element names (λ (q : kind_of (around e) e.parent ≡ 2). k (e.kind_told ∙ q))
+
+    -- rule 9
+    pub usual-circles : false ≡ never_ends e
+    usual-circles = sym (falling-endless (pool_of e) (around e) (suc e.i + 1) (suc e.i) falls (omega arith) (omega (arith, entries-long (pool_of e) e.names.now.records.starts.now, inside e)))
+
+    pub usual-sighted : (s' : Sight) → s'.full ≡ false → s'.again.now ≡ s.again.now → s'.endless.now ≡ s.endless.now → length s'.numbers.now ≡ length s.numbers.now
+        → ((j : ℕ) → j < 8 * length s.numbers.now → bit_at s'.numbers.now j ≡ (eqb j e.fields.number || bit_at s.numbers.now j)) → Sighted e.names.now.records (e.i + 1) s'
+    usual-sighted s' f a b n adds =
+        record {
+          room = omega (arith, w.room, n);
+          again_room = rw a w.again_room;
+          endless_room = rw b w.endless_room;
+          marked = λ t. absurd (true≢false (sym t ∙ f));
+          blank = λ _. rw (a, b) (w.blank plain.0);
+          noted = λ _. noted_more 4096 (element_key (pool_of e) (around e)) e.i s.numbers.now (w.noted plain.0) e.fields.number number_is w.room s'.numbers.now adds;
+          falling = λ _. subst (Falling (pool_of e) (around e)) (behind e.i) falls;
+        }

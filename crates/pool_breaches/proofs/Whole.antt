@@ -1,6 +1,5 @@
 -- The faults of a whole pool, record by record. Assumes nothing.
 use mathlib.Core.Path.{◌≡◌, refl, ◌∙◌, subst}
-use mathlib.Core.Bool.{Bool, false}
 use mathlib.Core.List.{List}
 use Prim.Native.Nat.{ℕ, suc, ◌+◌, ◌*◌, ◌<◌, ◌≤◌}
 use native.Mathlib.Numerals.{add-one}
@@ -8,72 +7,59 @@ use native.Mathlib.Omega.{arith}
 use lib.ListN.{length}
 use Rattle.faults.specs.Rows.{faults_of_rows, in_records}
 use Rattle.faults.specs.Emission.{Emits}
-use Rattle.faults.proofs.Emission.{emits-record, emits-no-records, puts-length}
-use Rattle.pool.specs.Walk.{entries_of}
+use Rattle.faults.specs.declared.FaultList.{FaultList}
+use Rattle.faults.proofs.Emission.{emits-record, emits-no-records}
+use Rattle.naming.specs.declared.RecordList.{RecordList}
+use Rattle.naming.specs.Entries.{entries_in}
 use Rattle.pool.proofs.Starts.{entries-long}
 use Rattle.rules.specs.Table.{record_rows, rows_of, breaches_in}
+use Rattle.pool_breaches.specs.declared.sight.Sight.{Sight}
 use Rattle.pool_breaches.specs.Passing.{Completes, Sighted, Added}
 
 -- a loop over the records: what it adds to what was put before it
-pub record Putting (p starts numbers₀ again₀ endless₀ seen₀ faults₀ : List ℕ) (n₀ : ℕ) (numbers again endless seen faults : List ℕ) (n : ℕ) (full : Bool) (i : ℕ) : Type 0 where
-  pub sighted : Sighted p starts i full numbers again endless
-  pub places : 1024 ≤ length seen
-  pub numbers-long : length numbers ≡ length numbers₀
-  pub again-long : length again ≡ length again₀
-  pub endless-long : length endless ≡ length endless₀
-  pub seen-long : length seen ≡ length seen₀
-  pub faults-long : length faults ≡ length faults₀
-  pub within : suc i ≤ length starts
-  pub few : n ≤ n₀ + i * 98313
+pub record Putting (records : RecordList) (faults₀ : FaultList) (s : Sight) (faults : FaultList) (i : ℕ) : Type 0 where
+  pub sighted : Sighted records i s
+  pub same : faults.buffer.ghost_name ≡ faults₀.buffer.ghost_name
+  pub within : suc i ≤ length records.starts.now
+  pub few : faults.count ≤ faults₀.count + i * 98313
   pub grown :
-      (b : List ℕ) → Emits b 0 (in_records (rows_of p (entries_of p starts)) 1) faults₀ n₀ → Emits b 0 (in_records (rows_of p (entries_of p starts)) (suc i)) faults n
+      (b : List ℕ) → Emits b 0 (in_records (rows_of records.pool.now (entries_in records)) 1) faults₀.buffer.now faults₀.count
+      → Emits b 0 (in_records (rows_of records.pool.now (entries_in records)) (suc i)) faults.buffer.now faults.count
 
-module _ (p starts : List ℕ) where
-  pub putting-start : (numbers again endless seen faults : List ℕ) (n : ℕ) → Sighted p starts 0 false numbers again endless → 1024 ≤ length seen → 0 < length starts
-      → Putting p starts numbers again endless seen faults n numbers again endless seen faults n false 0
-  putting-start numbers again endless seen faults n w s h =
+module _ (records : RecordList) where
+  pub putting-start : (s : Sight) (faults : FaultList) → Sighted records 0 s → 0 < length records.starts.now → Putting records faults s faults 0
+  putting-start s faults w h =
       record {
         sighted = w;
-        places = s;
-        numbers-long = refl;
-        again-long = refl;
-        endless-long = refl;
-        seen-long = refl;
-        faults-long = refl;
+        same = refl;
         within = omega arith;
         few = omega arith;
         grown = λ b e. e;
       }
 
-  pub putting-more : {numbers₀ again₀ endless₀ seen₀ faults₀ : List ℕ} {n₀ : ℕ} {numbers again endless seen faults : List ℕ} {n : ℕ} {full : Bool} {i : ℕ} → i + 1 < length starts
-      → Putting p starts numbers₀ again₀ endless₀ seen₀ faults₀ n₀ numbers again endless seen faults n full i
-      → (numbers' again' endless' seen' faults' : List ℕ) (n' : ℕ) (full' : Bool) → length numbers' ≡ length numbers → length again' ≡ length again
-      → length endless' ≡ length endless → length seen' ≡ length seen → Added p starts i faults n faults' n' → Sighted p starts (i + 1) full' numbers' again' endless'
-      → Putting p starts numbers₀ again₀ endless₀ seen₀ faults₀ n₀ numbers' again' endless' seen' faults' n' full' (i + 1)
-  putting-more {faults = faults} {n = n} {i = i} h w numbers' again' endless' seen' faults' n' full' a b c d added sighted =
+  pub putting-more : {faults₀ : FaultList} {s : Sight} {faults : FaultList} {i : ℕ} → i + 1 < length records.starts.now → Putting records faults₀ s faults i
+      → (s' : Sight) (faults' : FaultList) → Added records i faults faults' → Sighted records (i + 1) s'
+      → Putting records faults₀ s' faults' (i + 1)
+  putting-more {faults = faults} {i = i} h w s' faults' added sighted =
+      let rows = rows_of records.pool.now (entries_in records) in
       record {
         sighted = sighted;
-        places = omega (arith, d, w.places);
-        numbers-long = a ∙ w.numbers-long;
-        again-long = b ∙ w.again-long;
-        endless-long = c ∙ w.endless-long;
-        seen-long = d ∙ w.seen-long;
-        faults-long = puts-length added.puts ∙ w.faults-long;
+        same = added.same ∙ w.same;
         within = omega arith;
         few = omega (arith, added.few, w.few);
         grown =
             λ b₀ e.
             let s : i + 1 ≡ suc i = add-one i in
             let t : suc i + 1 ≡ suc (i + 1) = omega arith in
-            subst (λ (k : ℕ). Emits b₀ 0 (in_records (rows_of p (entries_of p starts)) k) faults' n') t
-            (emits-record (rows_of p (entries_of p starts)) (suc i) (w.grown b₀ e)
-            (subst (λ (k : ℕ). Emits faults n (faults_of_rows k (record_rows p (entries_of p starts) i)) faults' n') s added.puts.emits));
+            subst (λ (k : ℕ). Emits b₀ 0 (in_records rows k) faults'.buffer.now faults'.count) t
+            (emits-record rows (suc i) (w.grown b₀ e)
+            (subst (λ (k : ℕ). Emits faults.buffer.now faults.count (faults_of_rows k (record_rows records.pool.now (entries_in records) i)) faults'.buffer.now faults'.count) s added.puts.emits));
       }
 
-  pub putting-end : {numbers₀ again₀ endless₀ seen₀ faults₀ : List ℕ} {n₀ : ℕ} {numbers again endless seen faults : List ℕ} {n : ℕ} {full : Bool} {i : ℕ} → length starts ≤ i + 1
-      → Putting p starts numbers₀ again₀ endless₀ seen₀ faults₀ n₀ numbers again endless seen faults n full i → Completes p (entries_of p starts) faults₀ n₀ faults n
+  pub putting-end : {faults₀ : FaultList} {s : Sight} {faults : FaultList} {i : ℕ} → length records.starts.now ≤ i + 1 → Putting records faults₀ s faults i
+      → Completes records.pool.now (entries_in records) faults₀ faults
   unfolding breaches_in
-  putting-end {faults = faults} {n = n} {i = i} h w b q =
-      let s : suc i ≡ suc (length (entries_of p starts)) = omega (arith, h, w.within, entries-long p starts) in
-      subst (λ (k : ℕ). Emits b 0 (in_records (rows_of p (entries_of p starts)) k) faults n) s
-      (w.grown b (emits-record (rows_of p (entries_of p starts)) 0 (emits-no-records (rows_of p (entries_of p starts))) q.emits))
+  putting-end {faults = faults} {i = i} h w =
+      let rows = rows_of records.pool.now (entries_in records) in
+      let s : suc i ≡ suc (length (entries_in records)) = omega (arith, h, w.within, entries-long records.pool.now records.starts.now) in
+      (w.same, λ b q. subst (λ (k : ℕ). Emits b 0 (in_records rows k) faults.buffer.now faults.count) s (w.grown b (emits-record rows 0 (emits-no-records rows) q.emits)))

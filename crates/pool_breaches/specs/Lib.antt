@@ -1,2 +1,3 @@
 -- What the contracts of `pool_breaches` cite.
 pub mod Passing
+pub mod Lending

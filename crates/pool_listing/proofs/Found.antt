@@ -1,12 +1,18 @@
 -- The faults that a buffer holds, and their lines. Assumes nothing.
 use mathlib.Core.Path.{◌≡◌, refl, sym, ap, ◌∙◌}
 use mathlib.Core.List.{List, [], ◌∷◌, ◌++◌, append-nil, append_assoc}
-use Prim.Native.Nat.{ℕ, zero, suc, ◌+◌, ◌*◌, ◌/◌, ◌≤◌, ◌<◌}
-use native.Mathlib.Nat.{not-suc-le-zero}
+use Prim.Native.Nat.{ℕ, zero, suc, ◌+◌, ◌*◌, ◌-◌, ◌/◌, ◌≤◌, ◌<◌, min}
+use mathlib.Core.Bool.{true, false}
+use borrow.Author.Tests.{ltb-true, ltb-false}
+use lib.Dec.{ltb}
+use Rattle.wire.proofs.Either.{by-case}
+use native.Mathlib.Nat.{not-suc-le-zero, le_of_lt, min-eq_left, min-eq_right}
 use native.Mathlib.Omega.{arith}
 use native.Mathlib.Numerals.{add-one}
 use lib.ListN.{length, get_or, take, drop, length-take}
-use lib.Seq.{get_or-drop, take-take, take_all, sets, sets-eq}
+use Rattle.std.specs.Simd.{first_chunks}
+use lib.Seq.{drop-drop, get_or-drop, get_or-take, take-take, take_all, length-take-le, sets, sets-eq}
+use Rattle.std.proofs.lemmas.List.{drop-take}
 use Rattle.faults.specs.Faults.{FaultEntry, fault_entry, width, flat, written}
 use Rattle.faults.proofs.Completing.{flat-long}
 use Rattle.listing.specs.Lines.{fault_line, accepted_line}
@@ -49,6 +55,44 @@ pub fault-more : (i : ℕ) (b : List ℕ) → fault_lines (faults_in (i + 1) b)
 unfolding fault_at
 fault-more i b = rw (add-one i) (ap fault_lines (more i b) ∙ lines_more (faults_in i b) (fault_at b (width * i)))
 
+-- chunk i of a buffer, and the line of the fault in it
+chunk-at : (b : List ℕ) (m i : ℕ) → i < m → get_or (first_chunks width m b) i [] ≡ take width (drop (width * i) b)
+chunk-at b zero i h = absurd (omega arith)
+chunk-at b (suc m) zero h = refl
+chunk-at b (suc m) (suc i) h =
+    let e : width + width * i ≡ width * suc i = omega arith in
+    chunk-at (drop width b) m i (omega arith) ∙ ap (take width) (drop-drop (width * i) width b ∙ ap (λ (n : ℕ). drop n b) e)
+
+pub row-at : (b : List ℕ) (given : List (List ℕ)) (m i : ℕ) → given ≡ first_chunks width m b → i < m → get_or given i [] ≡ take width (drop (width * i) b)
+row-at b given m i e h = ap (λ (r : List (List ℕ)). get_or r i []) e ∙ chunk-at b m i h
+
+number-at : (b : List ℕ) (k j : ℕ) → j < width → get_or (take width (drop k b)) j 0 ≡ get_or b (k + j) 0
+number-at b k j h = get_or-take width (drop k b) j 0 h ∙ get_or-drop k b j 0
+
+pub line-at : (b row : List ℕ) (k : ℕ) → row ≡ take width (drop k b)
+    → fault_line (get_or row 0 0) (get_or row 1 0) (get_or row 2 0) (get_or row 3 0) (get_or row 4 0)
+    ≡ fault_line (get_or b k 0) (get_or b (k + 1) 0) (get_or b (k + 2) 0) (get_or b (k + 3) 0) (get_or b (k + 4) 0)
+line-at b row k e =
+    let z : k + 0 ≡ k = omega arith in
+    let first : get_or (take width (drop k b)) 0 0 ≡ get_or b k 0 = number-at b k 0 (omega arith) ∙ ap (λ (n : ℕ). get_or b n 0) z in
+    rw (e, first, number-at b k 1 (omega arith), number-at b k 2 (omega arith), number-at b k 3 (omega arith), number-at b k 4 (omega arith))
+
+-- a slice with the first n faults alone
+among : (n m : ℕ) (b : List ℕ) → n * width ≤ m → faults_in n (take m b) ≡ faults_in n b
+unfolding faults_in fault_at
+among zero m b h = refl
+among (suc n) m b h =
+    let split : m ≡ width + (m - width) = omega arith in
+    let rest : drop width (take m b) ≡ take (m - width) (drop width b) = ap (λ (k : ℕ). drop width (take k b)) split ∙ drop-take width (m - width) b in
+    rw (rest, get_or-take m b 0 0 (omega arith), get_or-take m b 1 0 (omega arith), get_or-take m b 2 0 (omega arith), get_or-take m b 3 0 (omega arith), get_or-take m b 4 0 (omega arith))
+    (ap (λ (fs : List FaultEntry). fault_at b 0 ∷ fs) (among n (m - width) (drop width b) (omega arith)))
+
+pub count-alone : (n : ℕ) (b : List ℕ) → n * width ≤ length b → length (take (n * width) b) / width ≡ n
+count-alone n b h = omega (arith, length-take-le (n * width) b h)
+
+pub alone : (n : ℕ) (b : List ℕ) → n * width ≤ length b → faults_in (length (take (n * width) b) / width) (take (n * width) b) ≡ faults_in n b
+alone n b h = rw (count-alone n b h) (among n (n * width) b (omega arith))
+
 front : (n : ℕ) (fs : List FaultEntry) (rest : List ℕ) → n ≤ length fs → faults_in n (flat fs ++ rest) ≡ take n fs
 unfolding faults_in
 front zero fs rest h = refl
@@ -75,11 +119,17 @@ module _ (b : List ℕ) (fs : List FaultEntry) (held : Held b fs) where
       ap (faults_in n) begins ∙ front n (take 1024 fs) _ many ∙ take-take n 1024 fs l
 
   -- as many as there are, or 1,024 of more
-  pub all_shown : (n : ℕ) → n ≡ length fs → n < 1024 → faults_in n b ≡ take 1024 fs
+  all_shown : (n : ℕ) → n ≡ length fs → n < 1024 → faults_in n b ≡ take 1024 fs
   all_shown n e l = holds n (omega arith) (omega arith) ∙ take_all n fs (omega arith) ∙ sym (take_all 1024 fs (omega arith))
 
-  pub first-shown : 1024 ≤ length fs → faults_in 1024 b ≡ take 1024 fs
+  first-shown : 1024 ≤ length fs → faults_in 1024 b ≡ take 1024 fs
   first-shown h = holds 1024 h (omega arith)
+
+  pub shown : (n : ℕ) → n ≡ length fs → faults_in (min n 1024) b ≡ take 1024 fs
+  shown n e =
+      by-case (ltb n 1024)
+      (λ (t : ltb n 1024 ≡ true). let less = ltb-true n 1024 t in rw (min-eq_left (le_of_lt less)) (all_shown n e less))
+      (λ (f : ltb n 1024 ≡ false). let more = ltb-false n 1024 f in rw (min-eq_right more) (first-shown (omega arith)))
 
 pub none_found : (fs : List FaultEntry) → 0 ≡ length fs → accepted_line ≡ findings fs
 unfolding findings

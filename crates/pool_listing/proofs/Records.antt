@@ -4,8 +4,8 @@ use mathlib.Core.List.{List, [], ◌∷◌, ◌++◌, append-nil, append_assoc}
 use Prim.Native.Nat.{ℕ, suc, ◌+◌, ◌-◌, ◌≤◌, ◌<◌}
 use native.Mathlib.Omega.{arith}
 use native.Mathlib.Numerals.{add-one}
-use lib.ListN.{length, get_or, take}
-use lib.Seq.{take-suc, take_all}
+use lib.ListN.{length, get_or, take, drop, length-drop}
+use lib.Seq.{take-suc, take_all, length-take-le, get_or-drop, get_or-take}
 use Rattle.records.specs.Layout.{mark_code, mark_of, three}
 use Rattle.records.specs.Places.{id_of}
 use Rattle.pool.specs.Reading.{Entry, entry_at}
@@ -38,6 +38,13 @@ module _ (p starts : List ℕ) where
       let long = entries-long p starts in
       rw (add-one i)
       (ap record_lines (take-suc es i none (omega arith)) ∙ lines_more (take i es) (get_or es i none) ∙ ap (λ (e : Entry). record_lines (take i es) ++ line_of e) (entry-at p starts none i l))
+
+  -- the starts but the first, which are the ends of the records
+  pub rest-long : length (take (length starts - 1) (drop 1 starts)) ≡ length starts - 1
+  rest-long = length-take-le (length starts - 1) (drop 1 starts) (omega (arith, length-drop 1 starts))
+
+  pub rest-at : (i : ℕ) → i < length starts - 1 → get_or (take (length starts - 1) (drop 1 starts)) i 0 ≡ get_or starts (i + 1) 0
+  rest-at i h = let e : 1 + i ≡ i + 1 = omega arith in rw (get_or-take, get_or-drop, e)
 
   -- all of them
   pub record-all : (i : ℕ) → length starts ≤ i + 1 → record_lines (take i (entries_of p starts)) ≡ record_lines (entries_of p starts)

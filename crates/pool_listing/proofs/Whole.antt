@@ -14,7 +14,7 @@ use Rattle.pool.specs.Walk.{entries_of, Divided, Listed}
 use Rattle.pool.proofs.Judged.{read-counted}
 use Rattle.rules.specs.Table.{breaches_of}
 use Rattle.checker.specs.Checking.{check_of, count_of, reported, faults_after}
-use Rattle.checker.proofs.Checked.{reported-long}
+use Rattle.checker.proofs.Counting.{reported-long}
 use Rattle.listing.specs.Lines.{count_line, refused_line}
 use Rattle.pool_listing.specs.Listing.{record_lines, findings, read_listing, listing_of}
 use Rattle.pool_listing.specs.Parts.{Held}

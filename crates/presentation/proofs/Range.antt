@@ -1,24 +1,11 @@
 -- What the test of a scale means. Assumes nothing.
-use mathlib.Core.Path.{◌≡◌, refl, sym, subst}
-use mathlib.Core.Bool.{true, false, not}
+use mathlib.Core.Path.{◌≡◌, sym, subst}
+use mathlib.Core.Bool.{true, not}
 use Prim.Native.Nat.{◌≤◌}
 use lib.Dec.{T, leb, leb→le}
-use lib.Ieee.{Float, nan, inf, fin, binary32, ne, is_nan, to_bits}
-use lib.Ieee.Compare.{differs_from_itself}
+use lib.Ieee.{Float, binary32, is_nan, to_bits}
 use lib.Ieee.Fits.{and_l, and_r}
 use Rattle.presentation.specs.Display.{in_range}
-
--- what differs from itself is a NaN
-pub is-nan : (x : Float) → ne x x ≡ true → is_nan x ≡ true
-unfolding is_nan
-is-nan x e = rw (differs_from_itself x (subst T (sym e) tt))
-
--- and what does not is none
-pub no_nan : (x : Float) → ne x x ≡ false → is_nan x ≡ false
-unfolding ne is_nan
-no_nan nan e = e
-no_nan (inf s) e = refl
-no_nan (fin s m k) e = refl
 
 module _ (x : Float) (ok : in_range x ≡ true) where
   in-range : T (in_range x)

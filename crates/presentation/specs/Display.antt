@@ -1,11 +1,9 @@
 -- The displayed value, and its answer in the numbers of document 01. Definitions only.
-use Rattle.std.specs.Prelude.{ℕ, ◌≡◌, Bool, cond, not, ◌&&◌, leb, ℤ, ◌+ℤ◌, Float}
+use Rattle.std.specs.Prelude.{ℕ, ◌≡◌, Bool, cond, not, ◌&&◌, leb, ℤ, ◌+ℤ◌, Float, Option, Some, None}
 use Rattle.std.specs.Float.{binary32, binary64}
 use Rattle.std.specs.Float.Ieee.{is_nan, to_bits, of_bits, of_int, mul}
 use Rattle.presentation.specs.Rounding.{ProductBits}
 use Rattle.presentation.specs.declared.Presentation.{Presentation}
-use Rattle.presentation.specs.declared.Displayed.{Displayed}
-use Rattle.presentation.specs.declared.Displayed.TheVariants.{Value, Refused}
 
 -- the scale's bits, as a number, are within the two limits; those of every NaN are outside
 unfoldable pub in_range : Float → Bool
@@ -16,10 +14,10 @@ pub record Answer : Type 0 where
   pub number : ℕ
   pub value : Float
 
--- number 0 and the value, or 50 and the f64 whose bits are 0
-abbrev pub answer_of : Displayed → Answer
-answer_of (Value x) = record { number = 0; value = x }
-answer_of Refused = record { number = 50; value = of_bits binary64 0 }
+-- number 0 and the value that is shown, or 50 and the f64 whose bits are 0
+abbrev pub answer_of : Option Float → Answer
+answer_of (Some x) = record { number = 0; value = x }
+answer_of None = record { number = 50; value = of_bits binary64 0 }
 
 -- the product in f64 of the sum and the scale, both of which an f64 holds exactly; 50 for a scale or decimals out of range
 unfoldable pub shown_of : ℤ → Presentation → Answer

@@ -14,18 +14,11 @@ pub struct Presentation {
     pub decimals: u8,
 }
 
-#[derive(Clone, Copy)]
-pub enum Displayed {
-    Value(f64),
-    Refused,
-}
-
-// The scale is judged by its bits. A NaN, the only value that differs from itself, is excluded first: the logic has no bits for it, and
-// none of its bit patterns is within the range.
+// The scale is judged by its bits. A NaN is excluded first: the logic has no bits for it, and none of its bit patterns is within the range.
 fn is_in_range(scale: f32) -> bool
     ensures { result ≡ in_range scale }
 {
-    if scale != scale {
+    if scale.is_nan() {
         return false;
     }
     let bits = f32::to_bits(scale);
@@ -40,42 +33,42 @@ fn exact_sum(value: i32, offset: i32) -> f64
     sum as f64
 }
 
-// The displayed value. Both factors are exact, so that only the product is rounded.
-pub fn display(value: i32, presentation: Presentation) -> Displayed
+// The displayed value, None if the scale or the decimals are out of range. Both factors are exact, so that only the product is rounded.
+pub fn display(value: i32, presentation: Presentation) -> Option<f64>
     ensures { Shown value presentation (answer_of result) }
 {
-    let offset = presentation.offset;
-    let scale = presentation.scale;
-    let decimals = presentation.decimals;
+    let Presentation {
+        offset,
+        scale,
+        decimals,
+    } = presentation;
     if !is_in_range(scale) {
-        return Displayed::Refused;
+        return None;
     }
     if 7 < decimals {
-        return Displayed::Refused;
+        return None;
     }
     let sum = exact_sum(value, offset);
     let factor = scale as f64;
-    Displayed::Value(sum * factor)
+    Some(sum * factor)
 }
 
-// Document 01's number, 0 if a value is shown.
-pub fn number_of(displayed: Displayed) -> u32
+// Document 01's number, 0 if a value is shown. It and the next function are no `From`: neither an `Option` nor a number is a type of this
+// crate.
+pub fn number_of(displayed: Option<f64>) -> u32
     ensures { result ≡ (answer_of displayed).number }
 {
     match displayed {
-        Displayed::Value(_) => 0,
-        Displayed::Refused => 50,
+        Some(_) => 0,
+        None => 50,
     }
 }
 
 // The value, 0 if none is shown.
-pub fn value_of(displayed: Displayed) -> f64
+pub fn value_of(displayed: Option<f64>) -> f64
     ensures { result ≡ (answer_of displayed).value }
 {
-    match displayed {
-        Displayed::Value(x) => x,
-        Displayed::Refused => 0.0,
-    }
+    displayed.unwrap_or(0.0)
 }
 
 // The functions below do nothing: their contracts are claims, so that the report names them.

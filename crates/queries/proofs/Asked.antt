@@ -1,6 +1,7 @@
 -- What a query answers for an accepted pool and the list of its records. Assumes nothing.
 use mathlib.Core.Path.{◌≡◌, refl, sym, ap, subst, ◌∙◌}
 use mathlib.Core.List.{List}
+use Rattle.std.specs.Prelude.{Result, Ok, Err}
 use Prim.Native.Nat.{ℕ, zero, suc, ◌+◌, ◌-◌, ◌<◌, ◌≤◌}
 use native.Mathlib.Omega.{arith}
 use borrow.Author.Tests.{ne_eqb}
@@ -17,11 +18,13 @@ use Rattle.naming.specs.Records.{start_at, id_at, kind_at}
 use Rattle.naming.specs.Naming.{first_of}
 use Rattle.naming.proofs.First.{first_some, first-le}
 use Rattle.naming.proofs.Starts.{start-read, kind-is}
-use Rattle.checker.specs.Checking.{records_in, check_of}
-use Rattle.checker.specs.declared.Verdict.{Verdict}
-use Rattle.queries.specs.Queries.{refusal_in, acceptance, asked_text, carrier, text_number, text_span, Finds, device_in, padded, if_accepted, Labelled, structure_label, localization_label, extended_text, extended_label, extended_count}
-use Rattle.queries.specs.Parts.{FindsAmong, CheckedBy, LabelledBy}
-use Rattle.queries.specs.declared.Place.{Place}
+use Rattle.checker.specs.Checking.{verdict_of, check_of}
+use Rattle.pool.specs.declared.Refusal as Unread
+use Rattle.checker.specs.declared.Checked.{Checked}
+use Rattle.queries.specs.Queries.{refusal_in, refusal_number, acceptance, asked_text, carrier, text_number, text_span, Finds, device_in, padded, if_accepted, Labelled, structure_label, localization_label, extended_text, extended_label, extended_count}
+use Rattle.queries.specs.Parts.{Accepts, FindsAmong, CheckedBy, LabelledBy}
+use Rattle.queries.specs.declared.Refusal.{Refusal}
+use Rattle.queries.specs.declared.Refusal.TheVariants.{NoRecord}
 use Rattle.queries.specs.declared.DeviceLabels.{DeviceLabels}
 use Rattle.queries.proofs.Accepted.{accepted-read, accepted-device}
 use Rattle.queries.proofs.Whole.{Stands, text-within, extended-limit}
@@ -32,16 +35,24 @@ pub refused_as : (p : List ℕ) (room : ℕ) (a : Answer) (number : ℕ) → num
 unfolding acceptance
 refused_as p room a number e f = e ∙ ap refusal_in f
 
--- ---- refusals
+-- ---- a pool that is not accepted
 
-module _ (p : List ℕ) (room number : ℕ) (e : number ≡ acceptance p room) (h : number ≡ 0 → ⊥) where
-  pub text-refused : (id : ℕ) → (number ≡ text_number p room id) × (0 ≡ (text_span p room id).from) × (0 ≡ (text_span p room id).to)
+module _ (p : List ℕ) (room : ℕ) (list : List ℕ) (v : Result Checked Unread.Refusal) (k : CheckedBy p room list v) (refusal : Refusal) (m : Accepts v (Err refusal)) where
+  refused : refusal_number refusal ≡ acceptance p room
+  refused = refused_as p room (verdict_of v) (refusal_number refusal) m.0 k.verdict
+
+  pub text-refused : (id : ℕ) → Finds p room id (Err refusal)
   unfolding text_number text_span
-  text-refused id = rw (← e, ne_eqb number 0 h) (refl, refl, refl)
+  text-refused id =
+      let none = ne_eqb (refusal_number refusal) 0 m.1 in
+      record { number = rw (← refused, none); from = rw (← refused, none); to = rw (← refused, none); ordered = omega arith; within = omega arith }
 
-  pub labels-refused : (replicate 7 0 ≡ structure_label p room) × (replicate 7 0 ≡ localization_label p room) × (replicate 32 0 ≡ extended_label p room) × (0 ≡ extended_count p room)
+  pub labels-refused : (number : ℕ) → number ≡ refusal_number refusal
+      → Labelled p room (record { number = number; structure = replicate 7 0; localization = replicate 7 0; extended = replicate 32 0; extended_length = 0 })
   unfolding structure_label localization_label extended_label extended_count extended_text
-  labels-refused = rw (← e) (go number h)
+  labels-refused number e =
+      let r = go (refusal_number refusal) m.1 in
+      record { number = e ∙ refused; structure = rw (← refused) r.0; localization = rw (← refused) r.1; extended = rw (← refused) r.2; count = rw (← refused) r.3 }
     where
       go : (n : ℕ) → (n ≡ 0 → ⊥)
           → (replicate 7 0 ≡ padded 7 (if_accepted n (part_of p (device_in p (entries_in (scan_of p))).structure)))
@@ -59,39 +70,41 @@ module _ (p starts : List ℕ) (h : Divided p starts) where
   stands i l =
       record { end = get_or starts (suc i) 0; ends = (starts-stretch p starts h i l).ends; marked = sym (kind-is p starts i l) }
 
-  -- the place of a record with a number, in the list of starts
+  -- the place of a record that was found, in the list of starts
+  pub index-listed : (id i : ℕ) → suc i ≡ carrier (entries_of p starts) id → suc i < length starts
+  index-listed id i e = omega (arith, e, first-le (id_at (entries_of p starts)) id (length (entries_of p starts)), entries-long p starts, h.some)
+
+  -- the place of a record with a number, likewise
   pub number-listed : (key : ℕ → ℕ) (x r : ℕ) → r ≡ first_of key x (length (entries_of p starts)) → (r ≡ 0 → ⊥) → suc (r - 1) < length starts
   number-listed key x r e z = omega (arith, first-le key x (length (entries_of p starts)), entries-long p starts, h.some)
 
-  pub missing-among : (r id : ℕ) → r ≡ carrier (entries_of p starts) id → r ≡ 0
-      → FindsAmong p (entries_of p starts) id (record { number = 28; from = 0; to = 0 })
-  missing-among r id e z =
-      let none : carrier (entries_of p starts) id ≡ 0 = sym e ∙ z in
-      record { number = rw none; from = rw none; to = rw none; ordered = omega arith; within = omega arith }
+  pub missing-among : (id : ℕ) → 0 ≡ carrier (entries_of p starts) id → FindsAmong p (entries_of p starts) id (Err NoRecord)
+  missing-among id e = record { number = rw (← e); from = rw (← e); to = rw (← e); ordered = omega arith; within = omega arith }
 
-  pub found_among : (r id : ℕ) (s : Span) → r ≡ carrier (entries_of p starts) id → (r ≡ 0 → ⊥)
-      → s ≡ asked_text p (mark_code (mark_of (three p (get_or starts (r - 1) 0)))) (get_or starts (r - 1) 0)
-      → FindsAmong p (entries_of p starts) id (record { number = 0; from = s.from; to = s.to })
-  found_among r id s e z is =
+  pub found_among : (i id : ℕ) (s : Span) → suc i ≡ carrier (entries_of p starts) id
+      → s ≡ asked_text p (mark_code (mark_of (three p (get_or starts i 0)))) (get_or starts i 0)
+      → FindsAmong p (entries_of p starts) id (Ok s)
+  found_among i id s e is =
       let es = entries_of p starts in
-      let i = r - 1 in
-      let here : carrier es id ≡ suc i = omega (arith, e) in
-      let l : suc i < length starts = number-listed (id_at es) id r e z in
+      let l : suc i < length starts = index-listed id i e in
       let same : s ≡ asked_text p (kind_at es i) (start_at es i) = is ∙ rw (kind-is p starts i l, start-read p starts i l) in
       let w = text-within p (start_at es i) (kind_at es i) (subst (λ (at : ℕ). Stands p at (kind_at es i)) (start-read p starts i l) (stands i l)) in
       record {
-        number = rw (here, ne_eqb (suc i) 0 (λ (q : suc i ≡ 0). omega arith));
-        from = rw (here, same);
-        to = rw (here, same);
+        number = rw (← e, ne_eqb (suc i) 0 (λ (q : suc i ≡ 0). omega arith));
+        from = rw (← e, same);
+        to = rw (← e, same);
         ordered = rw same w.0;
         within = rw same w.1;
       }
 
 -- ---- an accepted pool, and the list that checking has made
 
-module _ (p : List ℕ) (room : ℕ) (list : List ℕ) (v : Verdict) (k : CheckedBy p room list v) (ok : 0 ≡ acceptance p room) (n : ℕ) (c : n ≡ records_in v) where
+module _ (p : List ℕ) (room : ℕ) (list : List ℕ) (v : Result Checked Unread.Refusal) (k : CheckedBy p room list v) (n : ℕ) (m : Accepts v (Ok n)) where
+  ok : 0 ≡ acceptance p room
+  ok = refused_as p room (verdict_of v) 0 (sym m.0) k.verdict
+
   read : answer 0 n ≡ read_of p room
-  read = ap (answer 0) (c ∙ k.records) ∙ accepted-read p room (sym ok)
+  read = ap (answer 0) (m.1 ∙ k.records) ∙ accepted-read p room (sym ok)
 
   listed : (n < length list) × Divided p (take (n + 1) list)
   unfolding Listed
@@ -109,7 +122,7 @@ module _ (p : List ℕ) (room : ℕ) (list : List ℕ) (v : Verdict) (k : Checke
   pub listed-all : entries_of p (take (n + 1) list) ≡ entries_in (scan_of p)
   listed-all = sym (ap entries_in listed-divided.divides)
 
-  pub text-found : (id : ℕ) (r : Place) → FindsAmong p (entries_of p (take (n + 1) list)) id r → Finds p room id r
+  pub text-found : (id : ℕ) (r : Result Span Refusal) → FindsAmong p (entries_of p (take (n + 1) list)) id r → Finds p room id r
   unfolding text_number text_span
   text-found id r h =
       let f : FindsAmong p (entries_in (scan_of p)) id r = rw listed-all at h in

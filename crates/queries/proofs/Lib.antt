@@ -3,3 +3,4 @@ pub mod Accepted
 pub mod Whole
 pub mod Asked
 pub mod Padded
+pub mod First

@@ -1,15 +1,16 @@
 -- Queries of an accepted pool, for its texts and labels: document 01, the last paragraph of "The rule table".
 -- Definitions only.
-use Rattle.std.specs.Prelude.{ℕ, zero, suc, ◌-◌, ◌≤◌, ◌≡◌, cond, List, [], ◌++◌, eqb, length, replicate}
+use Rattle.std.specs.Prelude.{ℕ, zero, suc, ◌-◌, ◌≤◌, ◌≡◌, cond, List, [], ◌++◌, eqb, length, replicate, Result, Ok, Err}
 use Rattle.records.specs.declared.Span.{Span}
 use Rattle.records.specs.declared.Device.{Device}
 use Rattle.views.specs.Fields.{part_of, device_of, element_of, process_data_of, property_of, presentation_of}
-use Rattle.pool.specs.Answer.{Answer}
+use Rattle.pool.specs.Answer.{Answer, refusal_answer}
 use Rattle.pool.specs.Reading.{Entry, scan_of, entries_in}
 use Rattle.naming.specs.Records.{start_at, id_at, kind_at}
 use Rattle.naming.specs.Naming.{first_of}
 use Rattle.checker.specs.Checking.{check_of}
-use Rattle.queries.specs.declared.Place.{Place}
+use Rattle.queries.specs.declared.Refusal.{Refusal}
+use Rattle.queries.specs.declared.Refusal.TheVariants.{Unread, Faulty, NoRecord}
 use Rattle.queries.specs.declared.DeviceLabels.{DeviceLabels}
 
 -- why a pool is not accepted, 0 if it is: reading's refusal, or 24 if checking counts a fault
@@ -58,17 +59,29 @@ text_span p room id =
 unfoldable pub text_of : List ℕ → ℕ → ℕ → List ℕ
 text_of p room id = part_of p (text_span p room id)
 
--- the span of an answer
-abbrev pub span_of : Place → Span
-span_of r = record { from = r.from; to = r.to }
+-- the number of a refusal: that of reading, 24 for a pool with a fault, 28 if no record has the ID
+abbrev pub refusal_number : Refusal → ℕ
+refusal_number (Unread unread) = (refusal_answer unread).number
+refusal_number Faulty = 24
+refusal_number NoRecord = 28
+
+-- the number of an answer, 0 or that of the refusal
+abbrev pub number_of : Result Span Refusal → ℕ
+number_of (Ok span) = 0
+number_of (Err refusal) = refusal_number refusal
+
+-- the place of an answer; with a refusal, a part without bytes at place 0
+abbrev pub span_of : Result Span Refusal → Span
+span_of (Ok span) = span
+span_of (Err refusal) = nowhere
 
 -- the answer to a text query: number and place; the place lies within the pool, whatever the answer is
-pub record Finds (p : List ℕ) (room id : ℕ) (r : Place) : Type 0 where
-  pub number : r.number ≡ text_number p room id
-  pub from : r.from ≡ (text_span p room id).from
-  pub to : r.to ≡ (text_span p room id).to
-  pub ordered : r.from ≤ r.to
-  pub within : r.to ≤ length p
+pub record Finds (p : List ℕ) (room id : ℕ) (r : Result Span Refusal) : Type 0 where
+  pub number : number_of r ≡ text_number p room id
+  pub from : (span_of r).from ≡ (text_span p room id).from
+  pub to : (span_of r).to ≡ (text_span p room id).to
+  pub ordered : (span_of r).from ≤ (span_of r).to
+  pub within : (span_of r).to ≤ length p
 
 -- ---- labels
 

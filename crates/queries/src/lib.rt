@@ -4,24 +4,47 @@
 
 ghost use Rattle.std.specs.Prelude.{◌≡◌, ◌≤◌, length};
 ghost use Rattle.wire.specs.Parts.{place_in};
+ghost use Rattle.records.specs.Layout.{mark_code, mark_of, three};
 ghost use Rattle.views.specs.Fields.{part_of, start_in, device_of};
-ghost use Rattle.pool.specs.Walk.{entries_of, Divided};
-ghost use Rattle.checker.specs.Checking.{verdict_of};
-ghost use Rattle.queries.specs.Queries.{refusal_in, asked_text, span_of, carrier, Finds, Labelled};
-ghost use Rattle.queries.specs.Parts.{FindsAmong, CheckedBy, LabelledBy};
+ghost use Rattle.naming.specs.Entries.{entries_in};
+ghost use Rattle.queries.specs.Queries.{refusal_number, asked_text, carrier, Finds, Labelled};
+ghost use Rattle.queries.specs.declared.Refusal.TheVariants.{Unread};
+ghost use Rattle.queries.specs.Parts.{Accepts, numbered, FindsAmong, CheckedBy, LabelledBy};
 
-use checker::Verdict;
-use records::Span;
+use checker::Checked;
+use naming::RecordList;
+use records::{Kind, Span};
 
-// The place of a text in the pool, or the number of a refusal with zeros.
+// Why a query is refused: the pool can't be read, or it has a fault, or no record has the ID that is asked for.
 #[derive(Clone, Copy)]
-pub struct Place {
-    pub number: u32,
-    pub from: usize,
-    pub to: usize,
+pub enum Refusal {
+    Unread(pool::Refusal),
+    Faulty,
+    NoRecord,
 }
 
-// The labels of the device, or the number of a refusal with zeros.
+impl From<pool::Refusal> for Refusal {
+    ghost from_gives = { λ unread refusal. refusal ≡ Unread unread };
+
+    fn from(unread: pool::Refusal) -> Refusal {
+        Refusal::Unread(unread)
+    }
+}
+
+// Document 01's number for a refusal.
+impl From<Refusal> for u32 {
+    ghost from_gives = { λ refusal number. number ≡ refusal_number refusal };
+
+    fn from(refusal: Refusal) -> u32 {
+        match refusal {
+            Refusal::Unread(unread) => unread.into(),
+            Refusal::Faulty => 24,
+            Refusal::NoRecord => 28,
+        }
+    }
+}
+
+// The labels of the device, or the number of a refusal with zeros: `lachsbrille_labels` returns it to C by value, so it is no Result.
 #[repr(C)]
 #[derive(Clone, Copy)]
 pub struct DeviceLabels {
@@ -32,106 +55,75 @@ pub struct DeviceLabels {
     pub extended_length: u16,
 }
 
-// Why a pool that has been checked is not accepted, as a number; 0 if it is accepted.
-pub fn refusal(verdict: Verdict) -> u32
-    ensures { result ≡ refusal_in (verdict_of verdict) }
+// The count of records of a pool that has been checked, or why it is not accepted.
+pub fn accept(verdict: Result<Checked, pool::Refusal>) -> Result<usize, Refusal>
+    ensures { Accepts verdict result }
 {
-    let number = checker::number_of(verdict);
-    if number != 0 {
-        return number;
+    let checked = verdict?;
+    if checked.faults != 0 {
+        return Err(Refusal::Faulty);
     }
-    if checker::value_of(verdict) != 0 {
-        return 24;
-    }
-    0
+    Ok(checked.records)
 }
 
-// The number, from 1, of the first record with an ID, 0 for none.
-fn first_with(p: &[u8], starts: &[u16], id: u32) -> u16
-    requires { Divided p.now starts.now }
-    ensures { result ≡ carrier (entries_of p.now starts.now) id }
+// The first record with an ID, counted from 0.
+fn first_with(records: &RecordList, id: u32) -> Option<usize>
+    ensures { numbered result ≡ carrier (entries_in records.now) id }
 {
-    let count = starts.len() - 1;
-    let mut i: usize = 0;
-    while i < count {
-        if naming::id_at(p, starts, i) as u32 == id {
-            return (i + 1) as u16;
-        }
-        i += 1;
-    }
-    0
+    (0..records.starts.len() - 1).position(|i| records.id_at(i) as u32 == id)
 }
 
-// A record's designator or unit text.
-fn text_in(p: &[u8], kind: u16, at: u16) -> Span
-    ensures { result ≡ asked_text p.now kind at }
+// The designator of the record at a place, or the unit text of a value presentation.
+fn text_in(p: &[u8], at: u16) -> Span
+    ensures { result ≡ asked_text p.now (mark_code (mark_of (three p.now at))) at }
 {
-    if kind == 1 {
-        return views::device(p, at).designator;
+    match records::view::mark(p, at) {
+        Some(Kind::Dvc) => views::device(p, at).designator,
+        Some(Kind::Det) => views::device_element(p, at).designator,
+        Some(Kind::Dpd) => views::process_data(p, at).designator,
+        Some(Kind::Dpt) => views::property(p, at).designator,
+        Some(Kind::Dvp) => views::value_presentation(p, at).unit,
+        None => Span { from: 0, to: 0 },
     }
-    if kind == 2 {
-        return views::device_element(p, at).designator;
-    }
-    if kind == 3 {
-        return views::process_data(p, at).designator;
-    }
-    if kind == 4 {
-        return views::property(p, at).designator;
-    }
-    if kind == 5 {
-        return views::value_presentation(p, at).unit;
-    }
-    Span { from: 0, to: 0 }
 }
 
 // Finds a text among the records of a pool. Its place lies within the pool, also if the text is empty.
-fn find_among(p: &[u8], starts: &[u16], id: u32) -> Place
-    requires { Divided p.now starts.now }
-    ensures { FindsAmong p.now (entries_of p.now starts.now) id result }
+fn find_among(records: &RecordList, id: u32) -> Result<Span, Refusal>
+    ensures { FindsAmong records.now.pool.now (entries_in records.now) id result }
 {
-    let number = first_with(p, starts, id) as usize;
-    if number == 0 {
-        return Place {
-            number: 28,
-            from: 0,
-            to: 0,
-        };
-    }
-    let at = starts[number - 1];
-    let text = text_in(p, records::view::kind(p, at), at);
-    Place {
-        number: 0,
-        from: text.from,
-        to: text.to,
+    match first_with(records, id) {
+        Some(i) => Ok(text_in(records.pool, records.starts[i])),
+        None => Err(Refusal::NoRecord),
     }
 }
 
 // Finds a text in a pool that has been checked, by the list of records that the check has made. It is not an entry point, so it may
 // require that the verdict and the list belong to the pool.
-pub fn find_in(p: &[u8], room: usize, starts: &[u16], verdict: Verdict, id: u32) -> Place
+pub fn find_in(
+    p: &[u8],
+    room: usize,
+    starts: &[u16],
+    verdict: Result<Checked, pool::Refusal>,
+    id: u32,
+) -> Result<Span, Refusal>
     requires { CheckedBy p.now room starts.now verdict }
     ensures { Finds p.now room id result }
 {
-    let number = refusal(verdict);
-    if number != 0 {
-        return Place {
-            number,
-            from: 0,
-            to: 0,
-        };
-    }
-    let end = checker::records_of(verdict) + 1;
-    find_among(p, &starts[..end], id)
+    let count = accept(verdict)?;
+    let records = RecordList {
+        pool: p,
+        starts: &starts[..=count],
+    };
+    find_among(&records, id)
 }
 
-// The text at a place that was found, as a slice of the pool. The number tells a refusal from an empty text.
-pub fn text_at<'a>(p: &'a [u8], place: Place, number: &mut u32) -> &'a [u8]
-    ensures { (result.now ≡ part_of p.now (span_of place)) × (number.new ≡ place.number) × (result.ref_ptr ≡ place_in p.entry (start_in p.now (span_of place))) }
+// The text at a place, as a slice of the pool. A number is handed on beside it, and no Result: docs/ name this function, which takes any
+// number and any span, since the slice is at a place after a refusal, too.
+pub fn text_at<'a>(p: &'a [u8], span: Span, told: u32, number: &mut u32) -> &'a [u8]
+    ensures { (result.now ≡ part_of p.now span) × (number.new ≡ told) × (result.ref_ptr ≡ place_in p.entry (start_in p.now span)) }
 {
-    *number = place.number;
-    let from = place.from;
-    let to = place.to;
-    views::part(p, Span { from, to })
+    *number = told;
+    views::part(p, span)
 }
 
 // The labels of the device that starts at a place.
@@ -158,21 +150,30 @@ fn labels_at(p: &[u8], at: u16) -> DeviceLabels
 
 // The labels, by value, with the count of the extended label's bytes; the list of records is that of the check, as for a text. An
 // accepted pool has a device, so its absence is not tested.
-pub fn labels_in(p: &[u8], room: usize, starts: &[u16], verdict: Verdict) -> DeviceLabels
+pub fn labels_in(
+    p: &[u8],
+    room: usize,
+    starts: &[u16],
+    verdict: Result<Checked, pool::Refusal>,
+) -> DeviceLabels
     requires { CheckedBy p.now room starts.now verdict }
     ensures { Labelled p.now room result }
 {
-    let number = refusal(verdict);
-    if number != 0 {
-        return DeviceLabels {
-            number,
+    match accept(verdict) {
+        Ok(count) => {
+            let records = RecordList {
+                pool: p,
+                starts: &starts[..=count],
+            };
+            let device = field_rules::whole::first_device(&records) as usize;
+            labels_at(p, starts[device - 1])
+        }
+        Err(refusal) => DeviceLabels {
+            number: refusal.into(),
             structure: [0u8; 7],
             localization: [0u8; 7],
             extended: [0u8; 32],
             extended_length: 0,
-        };
+        },
     }
-    let end = checker::records_of(verdict) + 1;
-    let device = field_rules::whole::first_device(p, &starts[..end]) as usize;
-    labels_at(p, starts[device - 1])
 }

@@ -7,13 +7,11 @@ use native.Mathlib.Omega.{arith}
 use native.Mathlib.Nat.{add-zero, zero-add}
 use lib.ListN.{length, get_or, take, drop, length-append}
 use lib.Seq.{take_at}
+use Rattle.std.specs.Prelude.{Option, Some}
 use Rattle.wire.specs.Parts.{joined}
 use Rattle.wire.specs.Bytes.{le_of}
 use Rattle.records.specs.Layout.{mark, mark_of, kind_code}
 use Rattle.records.specs.declared.Kind.{Kind}
-use Rattle.records.specs.declared.Kind.TheVariants.{Dvc}
-use Rattle.records.specs.declared.Mark.{Mark}
-use Rattle.records.specs.declared.Mark.TheVariants.{Of, Unknown}
 use Rattle.division.specs.Whole.{Whole}
 use Rattle.division.specs.Division.{AllWhole, Division}
 use Rattle.division.specs.Written.{Written, dvc, det, dpd, dpt, dvp}
@@ -34,17 +32,12 @@ id-in (dpd id ddi properties triggers d presentation l1 l2 l3 l4 l5 l6) = take_a
 id-in (dpt id ddi value d presentation l1 l2 l3 l4 l5) = take_at id _ 2 l1
 id-in (dvp id offset scale decimals unit l1 l2 l3 l4 l5) = take_at id _ 2 l1
 
-marked-kind : (r : List ℕ) (w : Whole r) → mark_of (take 3 r) ≡ Of w.kind
+marked-kind : (r : List ℕ) (w : Whole r) → mark_of (take 3 r) ≡ Some w.kind
 marked-kind r w = rw (w.marked, take_at (mark w.kind) w.body 3 (mark-length w.kind)) (mark-of w.kind)
-
-kind-of-mark : Mark → Kind
-kind-of-mark (Of k) = k
-kind-of-mark Unknown = Dvc
 
 -- a record is of one kind
 pub one-kind : {r : List ℕ} (v w : Whole r) → v.kind ≡ w.kind
-unfolding kind-of-mark
-one-kind {r} v w = ap kind-of-mark (sym (marked-kind r v) ∙ marked-kind r w)
+one-kind {r} v w = let same : ◌≡◌ {A = Option Kind} (Some v.kind) (Some w.kind) = sym (marked-kind r v) ∙ marked-kind r w in cc
 
 pub kind-written : {k : Kind} {r : List ℕ} (v : Whole r) → Written k r → v.kind ≡ k
 kind-written {k} {r} v w = let u = (whole-are-written k r).1 w in one-kind v u.0 ∙ u.1

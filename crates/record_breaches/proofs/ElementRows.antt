@@ -7,15 +7,15 @@ use native.Mathlib.Omega.{arith}
 use borrow.Author.Tests.{leb-true}
 use lib.Dec.{eqb, leb}
 use lib.ListN.{length, get_or}
+use Rattle.std.specs.Prelude.{Option, Some, None, Ok}
 use Rattle.records.specs.Layout.{layout, mark_code, mark_of, three}
 use Rattle.records.specs.Extents.{extent_of, marked_end}
 use Rattle.records.specs.Places.{field_at}
 use Rattle.records.specs.declared.Kind.TheVariants.{Dvc, Det, Dpd, Dpt, Dvp}
-use Rattle.records.specs.declared.Mark.{Mark}
-use Rattle.records.specs.declared.Mark.TheVariants.{Of, Unknown}
-use Rattle.records.specs.declared.Extent.TheVariants.{Ends, Cut}
+use Rattle.records.specs.declared.Kind.{Kind}
+use Rattle.records.specs.declared.Flaw.TheVariants.{Cut}
 use Rattle.records.specs.declared.DeviceElement.{DeviceElement}
-use Rattle.records.proofs.Range.{cut-ends, guarded, fields-end}
+use Rattle.records.proofs.Range.{guarded, fields-end}
 use Rattle.views.specs.Fields.{element_of}
 use Rattle.faults.specs.Rows.{AllClear}
 use Rattle.pool.specs.Reading.{Entry}
@@ -31,20 +31,20 @@ use Rattle.field_rules.proofs.Clearing.{element-clear}
 
 -- ---- a list of entries is no longer than its pool
 
-element-fits : (p : List ℕ) (at e : ℕ) → extent_of p at ≡ Ends e → mark_code (mark_of (three p at)) ≡ 2 → 2 * (element_of p at).entries ≤ length p
+element-fits : (p : List ℕ) (at e : ℕ) → extent_of p at ≡ Ok e → mark_code (mark_of (three p at)) ≡ 2 → 2 * (element_of p at).entries ≤ length p
 unfolding extent_of element_of field_at layout
 element-fits p at e h k = go (mark_of (three p at)) k g.1
   where
-    g : (leb (at + 3) (length p) ≡ true) × (marked_end (mark_of (three p at)) p (at + 3) ≡ Ends e)
-    g = guarded (leb (at + 3) (length p)) (marked_end (mark_of (three p at)) p (at + 3)) Cut e cut-ends h
+    g : (leb (at + 3) (length p) ≡ true) × (marked_end (mark_of (three p at)) p (at + 3) ≡ Ok e)
+    g = guarded (leb (at + 3) (length p)) (marked_end (mark_of (three p at)) p (at + 3)) Cut e h
 
-    go : (m : Mark) → mark_code m ≡ 2 → marked_end m p (at + 3) ≡ Ends e → 2 * (element_of p at).entries ≤ length p
-    go Unknown n q = absurd (omega (arith, n))
-    go (Of Dvc) n q = absurd (omega (arith, n))
-    go (Of Dpd) n q = absurd (omega (arith, n))
-    go (Of Dpt) n q = absurd (omega (arith, n))
-    go (Of Dvp) n q = absurd (omega (arith, n))
-    go (Of Det) n q =
+    go : (m : Option Kind) → mark_code m ≡ 2 → marked_end m p (at + 3) ≡ Ok e → 2 * (element_of p at).entries ≤ length p
+    go None n q = absurd (omega (arith, n))
+    go (Some Dvc) n q = absurd (omega (arith, n))
+    go (Some Dpd) n q = absurd (omega (arith, n))
+    go (Some Dpt) n q = absurd (omega (arith, n))
+    go (Some Dvp) n q = absurd (omega (arith, n))
+    go (Some Det) n q =
         let f = fields-end (layout Det) p (at + 3) e q (leb-true (at + 3) (length p) g.0) in
         omega (arith, f.1, f.2)
 

@@ -3,3 +3,5 @@ pub mod Rows
 pub mod Looking
 pub mod Noting
 pub mod ElementRows
+pub mod Elements
+pub mod Others

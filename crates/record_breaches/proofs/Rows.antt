@@ -6,8 +6,9 @@ use Prim.Native.Nat.{ℕ, suc, ◌+◌, ◌<◌}
 use borrow.Author.Tests.{not-true, eq-eqb, ne_eqb}
 use lib.ListN.{length}
 use Rattle.faults.specs.Rows.{AllClear}
-use Rattle.faults.specs.Emission.{Puts}
-use Rattle.faults.proofs.Emission.{puts_then}
+use Rattle.faults.specs.Adding.{Adds}
+use Rattle.faults.specs.declared.FaultList.{FaultList}
+use Rattle.faults.proofs.Adding.{adds_then}
 use Rattle.pool.specs.Reading.{Entry}
 use Rattle.naming.specs.Records.{id_at, kind_at}
 use Rattle.naming.specs.Naming.{first_of, named, kind_of}
@@ -16,9 +17,9 @@ use Rattle.rules.specs.Table.{bad_own, repeats, own_rows, presentation_rows, pre
 use Rattle.field_rules.proofs.Clearing.{clear_both}
 
 module _ (p : List ℕ) (es : List Entry) (i k : ℕ) (kind-is : k ≡ kind_at es i) (bad again : Bool) (bad-is : bad ≡ bad_own k (id_at es i)) (again-is : again ≡ repeats (id_at es) (id_at es i) i (length es)) where
-  pub all-rows : {b₀ b₁ b₂ : List ℕ} {k₀ k₁ k₂ : ℕ} → Puts (i + 1) (own_rows bad again) b₀ k₀ b₁ k₁ → Puts (i + 1) (kind_rows p es i k) b₁ k₁ b₂ k₂
-      → Puts (i + 1) (record_rows p es i) b₀ k₀ b₂ k₂
-  all-rows one two = rw (← kind-is, ← bad-is, ← again-is) (puts_then one two)
+  pub all-rows : {a b : ℕ} {l m r : FaultList} → Adds (i + 1) (own_rows bad again) a l m → Adds (i + 1) (kind_rows p es i k) b m r
+      → Adds (i + 1) (record_rows p es i) (a + b) l r
+  all-rows one two = rw (← kind-is, ← bad-is, ← again-is) (adds_then one two)
 
   pub record-clear : bad || again ≡ false → AllClear (kind_rows p es i k) → AllClear (record_rows p es i)
   record-clear none clear =
@@ -37,6 +38,6 @@ owned-clear es i k owned l is other =
     rw (ne_eqb k 1 other, ne_eqb (id_at es i) 0 own.0, ne_eqb (id_at es i) 65535 own.1, eq-eqb (first_of (id_at es) (id_at es i) (length es)) (suc i) own.2)
 
 -- a presentation by what its ID names
-pub presented : (es : List Entry) {n : ℕ} {b₀ b₁ : List ℕ} {k₀ k₁ : ℕ} (x r k : ℕ) → r ≡ named es x → k ≡ kind_of es r → Puts n (presentation_rows x r k) b₀ k₀ b₁ k₁
-    → Puts n (presented_rows es x) b₀ k₀ b₁ k₁
+pub presented : (es : List Entry) {n a : ℕ} {l m : FaultList} (x r k : ℕ) → r ≡ named es x → k ≡ kind_of es r → Adds n (presentation_rows x r k) a l m
+    → Adds n (presented_rows es x) a l m
 presented es x r k e f q = rw (f, e) at q

@@ -6,77 +6,51 @@ mod element;
 mod look;
 mod other;
 
-ghost use Rattle.std.specs.Prelude.{◌≡◌, true, not, suc, ◌+◌, ◌≤◌, ◌<◌, ◌^◌, eqb, length};
-ghost use Rattle.views.specs.Fields.{element_of};
-ghost use Rattle.faults.specs.Emission.{Puts};
-ghost use Rattle.pool.specs.Walk.{entries_of};
-ghost use Rattle.naming.specs.Records.{start_at, kind_at};
-ghost use Rattle.naming.specs.Naming.{first_of, named, kind_of, parent_of, climb};
-ghost use Rattle.naming.specs.Chained.{Names, Owned};
-ghost use Rattle.rules.specs.Table.{repeats, element_key, record_rows};
+ghost use Rattle.std.specs.Prelude.{◌≡◌, ◌+◌, ◌<◌, ◌^◌};
+ghost use Rattle.faults.specs.Adding.{Adds};
+ghost use Rattle.record_breaches.specs.Elements.{repeats_number, never_ends, rows_of};
+ghost use Rattle.record_breaches.specs.Others.{other_rows};
 
-use records::DeviceElement;
+pub use element::ElementRecord;
+use faults::FaultList;
+pub use other::OtherRecord;
+use records::Kind;
 
-// Every fault of record i, which is not a device element. device is the number of the first device, 0 if there is none.
-pub fn put_other(
-    p: &[u8],
-    starts: &[u16],
-    heads: &[u16],
-    next: &[u16],
-    owned: bool,
-    device: u16,
-    i: usize,
-    kind: u16,
-    faults: &mut [u16],
-    n: usize,
-) -> usize
-    requires { Names p.now starts.now heads.now next.now × (owned ≡ true → Owned (entries_of p.now starts.now)) × (i + 1 < length starts.now) × (device ≡ first_of (kind_at (entries_of p.now starts.now)) 1 (length (entries_of p.now starts.now))) × (kind ≡ kind_at (entries_of p.now starts.now) i) × (kind ≡ 2 → ⊥) × (n < 2 ^ 37) }
-    ensures { Puts (i + 1) (record_rows p.now (entries_of p.now starts.now) i) faults.old n faults.new result × (result ≤ n + 98313) }
+// How many remainders of DDIs a look at a list of entries tells apart.
+pub const PLACES: usize = 1024;
+
+// Every fault of a record that is not a device element.
+pub fn put_other(other: &OtherRecord, faults: &mut FaultList)
+    requires { faults.old.count < 2 ^ 37 }
+    ensures { Adds (other.now.i + 1) (other_rows other.now) 98313 faults.old faults.new }
 {
-    if look::is_clear_other(p, starts, heads, next, owned, i, kind) {
-        return n;
+    if look::is_clear_other(other) {
+        return;
     }
-    let bad = field_rules::is_bad_id(kind, records::view::id(p, starts[i]));
-    let again = naming::repeats_id(p, starts, heads, next, i);
-    other::put_faults(
-        p, starts, heads, next, device, i, kind, bad, again, faults, n,
-    )
+    let names = &other.pool.names;
+    let bad = field_rules::is_bad_id(other.kind, names.records.id_at(other.i));
+    let again = names.repeats_id(other.i);
+    other.put_faults(bad, again, faults);
 }
 
-// Every fault of record i, a device element with fields e; parent is the number of the record that its parent names, kind that record's
-// kind, and again and endless say whether it breaks rule 8 and rule 9.
+// Every fault of a device element; again and endless say whether it breaks rule 8 and rule 9. They are two parameters: a struct for them
+// would be made in one place and taken apart in the next.
 pub fn put_element(
-    p: &[u8],
-    starts: &[u16],
-    heads: &[u16],
-    next: &[u16],
-    i: usize,
-    e: DeviceElement,
-    parent: u16,
-    kind: u16,
+    element: &ElementRecord,
     again: bool,
     endless: bool,
-    seen: &mut [u8],
-    faults: &mut [u16],
-    n: usize,
-) -> usize
-    requires { Names p.now starts.now heads.now next.now × (i + 1 < length starts.now) × (kind_at (entries_of p.now starts.now) i ≡ 2) × (e ≡ element_of p.now (start_at (entries_of p.now starts.now) i)) × (parent ≡ named (entries_of p.now starts.now) e.parent) × (kind ≡ kind_of (entries_of p.now starts.now) parent) × (again ≡ repeats (element_key p.now (entries_of p.now starts.now)) (suc e.number) i (length (entries_of p.now starts.now))) × (endless ≡ not (eqb (climb (parent_of p.now (entries_of p.now starts.now)) (length (entries_of p.now starts.now)) (suc i)) 0)) × (1024 ≤ length seen.old) × (n < 2 ^ 37) }
-    ensures { Puts (i + 1) (record_rows p.now (entries_of p.now starts.now) i) faults.old n faults.new result × (result ≤ n + 98313) }
+    seen: &mut [u8; PLACES],
+    faults: &mut FaultList,
+)
+    requires { (again ≡ repeats_number element.now) × (endless ≡ never_ends element.now) × (faults.old.count < 2 ^ 37) }
+    ensures { Adds (element.now.i + 1) (rows_of element.now) 98313 faults.old faults.new }
 {
-    let at = starts[i];
-    let number = (i + 1) as u16;
-    let bad = field_rules::is_bad_id(2, records::view::id(p, at));
-    let twice = naming::repeats_id(p, starts, heads, next, i);
+    let names = element.names;
+    let bad = field_rules::is_bad_id(Kind::Det, names.records.id_at(element.i));
+    let twice = names.repeats_id(element.i);
     let faulty = (bad | twice) | (again | endless);
-    if faulty {
-        return element::put_faults(
-            p, starts, heads, next, i, e, parent, bad, twice, again, endless, faults, n,
-        );
+    if !faulty && look::is_clear_element(element, seen) {
+        return;
     }
-    if look::is_clear_element(p, starts, heads, next, at, e, kind, number, seen) {
-        return n;
-    }
-    element::put_faults(
-        p, starts, heads, next, i, e, parent, bad, twice, again, endless, faults, n,
-    )
+    element.put_faults(bad, twice, again, endless, faults);
 }

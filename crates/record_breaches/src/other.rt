@@ -1,126 +1,100 @@
 // The faults of a record that is not a device element, rule by rule, by its kind.
 ghost use Rattle.std.specs.Prelude.{◌≡◌, ◌++◌, ◌+◌, ◌≤◌, ◌<◌, ◌^◌, length};
-ghost use Rattle.views.specs.Fields.{process_data_of, property_of};
-ghost use Rattle.faults.specs.Emission.{Puts};
-ghost use Rattle.pool.specs.Walk.{entries_of};
+ghost use Rattle.records.specs.Layout.{kind_code};
+ghost use Rattle.views.specs.Fields.{device_of, process_data_of, property_of};
+ghost use Rattle.faults.specs.Adding.{Adds};
+ghost use Rattle.naming.specs.Entries.{entries_in};
 ghost use Rattle.naming.specs.Records.{id_at, kind_at};
-ghost use Rattle.naming.specs.Naming.{first_of};
-ghost use Rattle.naming.specs.Chained.{Names};
-ghost use Rattle.rules.specs.Table.{bad_own, repeats, presented_rows, data_rows, property_rows, kind_rows, record_rows};
+ghost use Rattle.rules.specs.Table.{bad_own, repeats, presented_rows, device_rows, data_rows, property_rows, kind_rows};
+
+use faults::FaultList;
+use field_rules::whole::NamedPool;
+use naming::NamedRecords;
+use records::Kind;
+
+// Record i of a pool, of this kind, which is not a device element.
+#[derive(Clone, Copy)]
+pub struct OtherRecord<'a> {
+    pub pool: &'a NamedPool<'a>,
+    pub i: usize,
+    pub kind: Kind,
+    pub ghost listed: { i + 1 < length pool.now.names.records.starts.now },
+    pub ghost told: { kind_code kind ≡ kind_at (entries_in pool.now.names.records) i },
+    pub ghost no_element: { kind_code kind ≡ 2 → ⊥ },
+}
 
 // Rules 6 and 7 of the presentation of process data or of a property.
-fn put_presented(
-    p: &[u8],
-    starts: &[u16],
-    heads: &[u16],
-    next: &[u16],
-    id: u16,
-    number: u16,
-    faults: &mut [u16],
-    n: usize,
-) -> usize
-    requires { Names p.now starts.now heads.now next.now × (n < 2 ^ 40) }
-    ensures { Puts number (presented_rows (entries_of p.now starts.now) id) faults.old n faults.new result × (result ≤ n + 2) }
+fn put_presented(names: &NamedRecords, id: u16, number: u16, faults: &mut FaultList)
+    requires { faults.old.count < 2 ^ 40 }
+    ensures { Adds number (presented_rows (entries_in names.now.records) id) 2 faults.old faults.new }
 {
-    let named = naming::named_at(p, starts, heads, next, id);
-    let kind = naming::kind_at(p, starts, named);
-    field_rules::put_presentation(id, named, kind, number, faults, n)
+    let named = names.named_at(id);
+    let kind = names.records.kind_at(named);
+    field_rules::put_presentation(id, named, kind, number, faults);
 }
 
-fn put_data(
-    p: &[u8],
-    starts: &[u16],
-    heads: &[u16],
-    next: &[u16],
-    at: u16,
-    number: u16,
-    faults: &mut [u16],
-    n: usize,
-) -> usize
-    requires { Names p.now starts.now heads.now next.now × (n < 2 ^ 39) }
-    ensures { Puts number (data_rows p.now (process_data_of p.now at) ++ presented_rows (entries_of p.now starts.now) (process_data_of p.now at).presentation) faults.old n faults.new result × (result ≤ n + 6) }
+// A device, which starts at `at`; second says whether another one comes before it.
+fn put_device(p: &[u8], at: u16, second: bool, number: u16, faults: &mut FaultList)
+    requires { faults.old.count < 2 ^ 38 }
+    ensures { Adds number (device_rows p.now second (device_of p.now at)) 18 faults.old faults.new }
 {
-    let d = views::process_data(p, at);
+    field_rules::put_device(p, views::device(p, at), second, number, faults);
+}
+
+// Process data, by its own rules and its presentation's. `put_property` differs in the view, its fields and its rows: a trait for the two
+// would be longer than both.
+fn put_data(names: &NamedRecords, at: u16, number: u16, faults: &mut FaultList)
+    requires { faults.old.count < 2 ^ 39 }
+    ensures { Adds number (data_rows names.now.records.pool.now (process_data_of names.now.records.pool.now at) ++ presented_rows (entries_in names.now.records) (process_data_of names.now.records.pool.now at).presentation) 6 faults.old faults.new }
+{
+    let d = views::process_data(names.records.pool, at);
     let presentation = d.presentation;
-    let own = field_rules::put_data(p, d, number, faults, n);
-    put_presented(p, starts, heads, next, presentation, number, faults, own)
+    field_rules::put_data(names.records.pool, d, number, faults);
+    put_presented(names, presentation, number, faults);
 }
 
-fn put_property(
-    p: &[u8],
-    starts: &[u16],
-    heads: &[u16],
-    next: &[u16],
-    at: u16,
-    number: u16,
-    faults: &mut [u16],
-    n: usize,
-) -> usize
-    requires { Names p.now starts.now heads.now next.now × (n < 2 ^ 39) }
-    ensures { Puts number (property_rows p.now (property_of p.now at) ++ presented_rows (entries_of p.now starts.now) (property_of p.now at).presentation) faults.old n faults.new result × (result ≤ n + 3) }
+fn put_property(names: &NamedRecords, at: u16, number: u16, faults: &mut FaultList)
+    requires { faults.old.count < 2 ^ 39 }
+    ensures { Adds number (property_rows names.now.records.pool.now (property_of names.now.records.pool.now at) ++ presented_rows (entries_in names.now.records) (property_of names.now.records.pool.now at).presentation) 3 faults.old faults.new }
 {
-    let d = views::property(p, at);
+    let d = views::property(names.records.pool, at);
     let presentation = d.presentation;
-    let own = field_rules::put_property(p, d, number, faults, n);
-    put_presented(p, starts, heads, next, presentation, number, faults, own)
+    field_rules::put_property(names.records.pool, d, number, faults);
+    put_presented(names, presentation, number, faults);
 }
 
-// The rules of the record's kind.
-fn put_kind(
-    p: &[u8],
-    starts: &[u16],
-    heads: &[u16],
-    next: &[u16],
-    device: u16,
-    i: usize,
-    kind: u16,
-    faults: &mut [u16],
-    n: usize,
-) -> usize
-    requires { Names p.now starts.now heads.now next.now × (i + 1 < length starts.now) × (device ≡ first_of (kind_at (entries_of p.now starts.now)) 1 (length (entries_of p.now starts.now))) × (kind ≡ 2 → ⊥) × (n < 2 ^ 38) }
-    ensures { Puts (i + 1) (kind_rows p.now (entries_of p.now starts.now) i kind) faults.old n faults.new result × (result ≤ n + 18) }
-{
-    let at = starts[i];
-    let number = (i + 1) as u16;
-    if kind == 1 {
-        return field_rules::put_device(
-            p,
-            views::device(p, at),
-            device != number,
-            number,
-            faults,
-            n,
-        );
-    }
-    if kind == 3 {
-        return put_data(p, starts, heads, next, at, number, faults, n);
-    }
-    if kind == 4 {
-        return put_property(p, starts, heads, next, at, number, faults, n);
-    }
-    if kind == 5 {
-        return field_rules::put_value(p, views::value_presentation(p, at), number, faults, n);
-    }
-    n
-}
+impl OtherRecord<'_> {
+    ghost use Rattle.record_breaches.specs.Others.{pool_around, records_around, other_rows};
 
-// Every fault of record i; bad and again say whether it breaks rules 1 and 2.
-pub(crate) fn put_faults(
-    p: &[u8],
-    starts: &[u16],
-    heads: &[u16],
-    next: &[u16],
-    device: u16,
-    i: usize,
-    kind: u16,
-    bad: bool,
-    again: bool,
-    faults: &mut [u16],
-    n: usize,
-) -> usize
-    requires { Names p.now starts.now heads.now next.now × (i + 1 < length starts.now) × (device ≡ first_of (kind_at (entries_of p.now starts.now)) 1 (length (entries_of p.now starts.now))) × (kind ≡ kind_at (entries_of p.now starts.now) i) × (kind ≡ 2 → ⊥) × (bad ≡ bad_own kind (id_at (entries_of p.now starts.now) i)) × (again ≡ repeats (id_at (entries_of p.now starts.now)) (id_at (entries_of p.now starts.now) i) i (length (entries_of p.now starts.now))) × (n < 2 ^ 37) }
-    ensures { Puts (i + 1) (record_rows p.now (entries_of p.now starts.now) i) faults.old n faults.new result × (result ≤ n + 98313) }
-{
-    let own = field_rules::put_own(bad, again, (i + 1) as u16, faults, n);
-    put_kind(p, starts, heads, next, device, i, kind, faults, own)
+    // The rules of the record's kind.
+    fn put_kind(&self, faults: &mut FaultList)
+        requires { faults.old.count < 2 ^ 38 }
+        ensures { Adds (self.now.i + 1) (kind_rows (pool_around self.now) (records_around self.now) self.now.i (kind_code self.now.kind)) 18 faults.old faults.new }
+    {
+        let names = &self.pool.names;
+        let p = names.records.pool;
+        let at = names.records.starts[self.i];
+        let number = (self.i + 1) as u16;
+        match self.kind {
+            Kind::Dvc => put_device(p, at, self.pool.device != number, number, faults),
+            Kind::Det => {}
+            Kind::Dpd => put_data(names, at, number, faults),
+            Kind::Dpt => put_property(names, at, number, faults),
+            Kind::Dvp => field_rules::put_value(
+                p,
+                views::value_presentation(p, at),
+                number,
+                faults,
+            ),
+        }
+    }
+
+    // Every fault; bad and again say whether it breaks rules 1 and 2.
+    pub(crate) fn put_faults(&self, bad: bool, again: bool, faults: &mut FaultList)
+        requires { (bad ≡ bad_own (kind_code self.now.kind) (id_at (records_around self.now) self.now.i)) × (again ≡ repeats (id_at (records_around self.now)) (id_at (records_around self.now) self.now.i) self.now.i (length (records_around self.now))) × (faults.old.count < 2 ^ 37) }
+        ensures { Adds (self.now.i + 1) (other_rows self.now) 98313 faults.old faults.new }
+    {
+        field_rules::put_own(bad, again, (self.i + 1) as u16, faults);
+        self.put_kind(faults);
+    }
 }

@@ -2,4 +2,6 @@
 pub mod Ends
 pub mod Range
 pub mod Late
+pub mod Untested
 pub mod Marks
+pub mod Codes

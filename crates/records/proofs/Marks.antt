@@ -8,11 +8,12 @@ use native.Mathlib.Omega.{arith}
 use borrow.Author.Tests.{ne_eqb}
 use lib.Dec.{eqb}
 use lib.ListN.{length, get_or, get_or-eq_default}
+use Rattle.std.specs.Prelude.{Some, None}
 use Rattle.records.specs.Layout.{mark_code, mark, mark_of, three}
-use Rattle.records.specs.declared.Mark.TheVariants.{Unknown}
+use Rattle.records.specs.declared.Kind.TheVariants.{Dvc, Det, Dpd, Dpt, Dvp}
 
 -- past the end is 0, which is in no mark
-unmarked : (a b : ℕ) → mark_of (a ∷ b ∷ 0 ∷ []) ≡ Unknown
+unmarked : (a b : ℕ) → mark_of (a ∷ b ∷ 0 ∷ []) ≡ None
 unfolding mark_of mark
 unmarked a b = rw (never (eqb a 68) (eqb b 86), never (eqb a 68) (eqb b 69), never (eqb a 68) (eqb b 80))
   where
@@ -21,18 +22,17 @@ unmarked a b = rw (never (eqb a 68) (eqb b 86), never (eqb a 68) (eqb b 69), nev
     never true false = refl
     never false y = refl
 
-pub kind-short : (p : List ℕ) (at : ℕ) → length p < at + 3 → mark_code (mark_of (three p at)) ≡ 0
-kind-short p at h =
+pub mark-short : (p : List ℕ) (at : ℕ) → length p < at + 3 → mark_of (three p at) ≡ None
+mark-short p at h =
     let z : get_or p (at + 2) 0 ≡ 0 = get_or-eq_default p 0 (omega arith) in
-    let m : mark_of (three p at) ≡ Unknown = rw z (unmarked (get_or p at 0) (get_or p (at + 1) 0)) in
-    ap mark_code m
+    rw z (unmarked (get_or p at 0) (get_or p (at + 1) 0))
 
 -- a mark takes three bytes
 pub mark-within : (p : List ℕ) (at : ℕ) → (mark_code (mark_of (three p at)) ≡ 0 → ⊥) → at + 3 ≤ length p
 mark-within p at h = go (dec_lt (length p) (at + 3))
   where
     go : Dec (length p < at + 3) → at + 3 ≤ length p
-    go (yes l) = absurd (h (kind-short p at l))
+    go (yes l) = absurd (h (ap mark_code (mark-short p at l)))
     go (no l) = omega arith
 
 -- what a mark is whose first letter is that of all
@@ -87,15 +87,15 @@ module _ (a b c : ℕ) (h : Marked a b c) where
 
   -- process data has a D behind the P, a property a T
   module _ (p : b ≡ 80) where
-    pub kind-process-data : c ≡ 68 → 3 ≡ mark_code (mark_of (a ∷ b ∷ c ∷ []))
+    pub kind-process-data : c ≡ 68 → mark_of (a ∷ b ∷ c ∷ []) ≡ Some Dpd
     unfolding mark_of mark
     kind-process-data e = rw (first, p, e)
 
-    pub kind-property : (c ≡ 68 → ⊥) → 4 ≡ mark_code (mark_of (a ∷ b ∷ c ∷ []))
+    pub kind-property : (c ≡ 68 → ⊥) → mark_of (a ∷ b ∷ c ∷ []) ≡ Some Dpt
     unfolding mark_of mark
     kind-property d = rw (first, p, data-third c (subst (λ (x : ℕ). Marked 68 x c) p (subst (λ (x : ℕ). Marked x b c) first h)) d)
 
-  pub kind-element : b ≡ 69 → 2 ≡ mark_code (mark_of (a ∷ b ∷ c ∷ []))
+  pub kind-element : b ≡ 69 → mark_of (a ∷ b ∷ c ∷ []) ≡ Some Det
   unfolding mark_of mark
   kind-element p =
       let t : c ≡ 84 = element-third c (subst (λ (x : ℕ). Marked 68 x c) p (subst (λ (x : ℕ). Marked x b c) first h)) in
@@ -105,11 +105,11 @@ module _ (a b c : ℕ) (h : Marked a b c) where
     second : b ≡ 86
     second = second-letter b c (subst (λ (x : ℕ). Marked x b c) first h) p e
 
-    pub kind-presentation : c ≡ 80 → 5 ≡ mark_code (mark_of (a ∷ b ∷ c ∷ []))
+    pub kind-presentation : c ≡ 80 → mark_of (a ∷ b ∷ c ∷ []) ≡ Some Dvp
     unfolding mark_of mark
     kind-presentation t = rw (first, second, t)
 
-    pub kind-device : (c ≡ 80 → ⊥) → 1 ≡ mark_code (mark_of (a ∷ b ∷ c ∷ []))
+    pub kind-device : (c ≡ 80 → ⊥) → mark_of (a ∷ b ∷ c ∷ []) ≡ Some Dvc
     unfolding mark_of mark
     kind-device d =
         let t : c ≡ 67 = device-third c (subst (λ (x : ℕ). Marked 68 x c) second (subst (λ (x : ℕ). Marked x b c) first h)) d in

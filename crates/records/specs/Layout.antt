@@ -1,9 +1,7 @@
 -- The five records of annex A: marks, fields and limits, each stated here and nowhere else. Definitions only.
-use Rattle.std.specs.Prelude.{ℕ, ◌+◌, Bool, true, false, cond, ◌&&◌, List, [], ◌∷◌, eqb, get_or}
+use Rattle.std.specs.Prelude.{ℕ, ◌+◌, Bool, true, false, cond, ◌&&◌, List, [], ◌∷◌, eqb, get_or, Option, Some, None}
 use Rattle.records.specs.declared.Kind.{Kind}
 use Rattle.records.specs.declared.Kind.TheVariants.{Dvc, Det, Dpd, Dpt, Dvp}
-use Rattle.records.specs.declared.Mark.{Mark}
-use Rattle.records.specs.declared.Mark.TheVariants.{Of, Unknown}
 
 -- a field: a fixed number of bytes; a text, which is a length byte up to a limit and that many bytes; or the entry IDs of a
 -- device element, which are a count of two bytes and two bytes for each entry
@@ -40,9 +38,9 @@ kind_code Dpt = 4
 kind_code Dvp = 5
 
 -- the number of the kind that a mark tells, 0 for no mark
-abbrev pub mark_code : Mark → ℕ
-mark_code (Of k) = kind_code k
-mark_code Unknown = 0
+abbrev pub mark_code : Option Kind → ℕ
+mark_code (Some k) = kind_code k
+mark_code None = 0
 
 -- whether two lists hold the same numbers
 abbrev pub same : List ℕ → List ℕ → Bool
@@ -51,15 +49,15 @@ same [] (y ∷ ys) = false
 same (x ∷ xs) [] = false
 same (x ∷ xs) (y ∷ ys) = eqb x y && same xs ys
 
--- the kind whose mark the bytes are, or unknown
-unfoldable pub mark_of : List ℕ → Mark
+-- the kind whose mark the bytes are, or none
+unfoldable pub mark_of : List ℕ → Option Kind
 unfolding mark
 mark_of s =
-    cond (same s (mark Dvc)) (Of Dvc)
-    (cond (same s (mark Det)) (Of Det)
-    (cond (same s (mark Dpd)) (Of Dpd)
-    (cond (same s (mark Dpt)) (Of Dpt)
-    (cond (same s (mark Dvp)) (Of Dvp) Unknown))))
+    cond (same s (mark Dvc)) (Some Dvc)
+    (cond (same s (mark Det)) (Some Det)
+    (cond (same s (mark Dpd)) (Some Dpd)
+    (cond (same s (mark Dpt)) (Some Dpt)
+    (cond (same s (mark Dvp)) (Some Dvp) None))))
 
 -- the three bytes at a place, 0 for a byte past the end; no mark contains a 0
 abbrev pub three : List ℕ → ℕ → List ℕ

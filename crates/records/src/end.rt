@@ -1,224 +1,140 @@
-// Where a record ends. On the way only length bytes and an entry count are tested for being within the pool. For all other fields one
-// test at the record's end is enough: if a field is past the pool's end, so is the record's end. A refusal is passed on.
-ghost use Rattle.std.specs.Prelude.{◌≡◌, List, ℕ, ◌+◌, ◌≤◌, ◌<◌, ◌^◌, length};
-ghost use Rattle.records.specs.Layout.{fixed, text, entries, layout};
-ghost use Rattle.records.specs.Extents.{fields_end, marked_end};
-ghost use Rattle.records.specs.Late.{late_field, late_next, closed, place_of};
-ghost use Rattle.records.specs.declared.Extent.TheVariants.{Ends};
+// Where a record ends. A field of fixed length is not tested for being within the pool: if it is past the pool's end, so is the field
+// behind it, or the record's end. The functions take a pool and a place in it, and no struct of both, which would be made for one record.
+ghost use Rattle.std.specs.Prelude.{◌≡◌, [], ◌∷◌, ◌+◌, ◌≤◌, cond, leb, ltb, length, get_or, IfOk};
+ghost use Rattle.records.specs.Layout.{fixed, text, layout};
+ghost use Rattle.records.specs.Extents.{field_end, fields_end};
+ghost use Rattle.records.specs.declared.Flaw.TheVariants.{Cut, LengthOver};
 ghost use Rattle.records.specs.declared.Kind.TheVariants.{Dvc, Det, Dpd, Dpt, Dvp};
 
-use super::{Extent, Kind, Mark};
+use super::{Flaw, Kind};
 
-// Skips n bytes, without testing that they are there.
-fn skip(e: Extent, n: usize) -> Extent
-    requires { place_of e + n < 2 ^ 64 }
-    ensures { ((p : List ℕ) → result ≡ late_next (fixed n) p e) × (place_of result ≤ place_of e + n) }
+// A place, if it is within the pool or at its end.
+fn end_within(p: &[u8], end: usize) -> Result<usize, Flaw>
+    ensures exact { result ≡ cond (leb end (length p.now)) (Ok end) (Err Cut) }
+    ensures bounded { IfOk result (λ at. at ≤ length p.now) }
 {
-    match e {
-        Extent::Ends(at) => Extent::Ends(at + n),
-        Extent::NoMark => Extent::NoMark,
-        Extent::Cut => Extent::Cut,
-        Extent::LengthOver(at) => Extent::LengthOver(at),
+    if p.len() < end {
+        return Err(Flaw::Cut);
     }
+    Ok(end)
 }
 
 // The end of a text with its length byte at a place.
-fn text_end(p: &[u8], at: usize, limit: u8) -> Extent
-    ensures { (result ≡ late_field (text limit) p.now at) × (place_of result ≤ length p.now + 256) }
+fn text_end(p: &[u8], at: usize, limit: u8) -> Result<usize, Flaw>
+    ensures exact { result ≡ field_end (text limit) p.now at }
+    ensures bounded { IfOk result (λ end. end ≤ length p.now) }
 {
     if p.len() <= at {
-        return Extent::Cut;
+        return Err(Flaw::Cut);
     }
-    let n = p[at];
-    if limit < n {
-        return Extent::LengthOver(at);
-    }
-    Extent::Ends(at + 1 + n as usize)
-}
-
-// The same for a length byte n bytes after a place in the pool. What is left of the pool is tested, so that the walk from record to record
-// waits for the length byte alone.
-fn text_behind(p: &[u8], at: usize, n: usize, limit: u8) -> Extent
-    requires { at ≤ length p.now }
-    ensures { (result ≡ late_field (text limit) p.now (at + n)) × (place_of result ≤ length p.now + 256) }
-{
-    if p.len() - at <= n {
-        return Extent::Cut;
-    }
-    let size = p[at + n];
+    let size = p[at];
     if limit < size {
-        return Extent::LengthOver(at + n);
+        return Err(Flaw::LengthOver(at));
     }
-    Extent::Ends(at + n + 1 + size as usize)
+    end_within(p, at + 1 + size as usize)
 }
 
-fn next_text(p: &[u8], e: Extent, limit: u8) -> Extent
-    ensures { (result ≡ late_next (text limit) p.now e) × (place_of result ≤ length p.now + 256) }
+// What is wrong with a record that is not whole, and that is not cut before the length byte of its text at a place: the length byte can be
+// over its limit.
+fn short_flaw(p: &[u8], at: usize, limit: u8) -> Flaw
+    ensures { result ≡ cond (ltb limit (get_or p.now at 0)) (LengthOver at) Cut }
 {
-    match e {
-        Extent::Ends(at) => text_end(p, at, limit),
-        Extent::NoMark => Extent::NoMark,
-        Extent::Cut => Extent::Cut,
-        Extent::LengthOver(at) => Extent::LengthOver(at),
+    if limit < wire::read_u8(p, at) {
+        return Flaw::LengthOver(at);
     }
-}
-
-// The end of a list of entries with its count at a place.
-fn entries_end(p: &[u8], at: usize) -> Extent
-    ensures { result ≡ late_field entries p.now at }
-{
-    if p.len() < at {
-        return Extent::Cut;
-    }
-    if p.len() - at < 2 {
-        return Extent::Cut;
-    }
-    let n = wire::read_u16(p, at);
-    Extent::Ends(at + 2 + 2 * n as usize)
-}
-
-fn next_entries(p: &[u8], e: Extent) -> Extent
-    ensures { result ≡ late_next entries p.now e }
-{
-    match e {
-        Extent::Ends(at) => entries_end(p, at),
-        Extent::NoMark => Extent::NoMark,
-        Extent::Cut => Extent::Cut,
-        Extent::LengthOver(at) => Extent::LengthOver(at),
-    }
-}
-
-// The record's end, if it is within the pool.
-fn close(p: &[u8], e: Extent) -> Extent
-    ensures { result ≡ closed p.now e }
-{
-    match e {
-        Extent::Ends(at) => {
-            if p.len() < at {
-                return Extent::Cut;
-            }
-            Extent::Ends(at)
-        }
-        Extent::NoMark => Extent::NoMark,
-        Extent::Cut => Extent::Cut,
-        Extent::LengthOver(at) => Extent::LengthOver(at),
-    }
+    Flaw::Cut
 }
 
 // The end of a record of n bytes, a text with its length byte, and m bytes. Where the record would end with an empty text is computed
 // without the length byte, so that the walk from record to record waits for one load and one sum.
-fn text_within(p: &[u8], at: usize, n: usize, limit: u8, m: usize) -> Extent
+fn text_within(p: &[u8], at: usize, n: usize, limit: u8, m: usize) -> Result<usize, Flaw>
     requires { (at ≤ length p.now) × (n ≤ 16) × (m ≤ 16) }
-    ensures { result ≡ closed p.now (late_next (fixed m) p.now (late_field (text limit) p.now (at + n))) }
+    ensures { result ≡ fields_end (fixed n ∷ text limit ∷ fixed m ∷ []) p.now (Ok at) }
 {
     let least = at + n + 1 + m;
     if p.len() < least {
-        let e = text_behind(p, at, n, limit);
-        return close(p, skip(e, m));
+        return Err(short_flaw(p, at + n, limit));
     }
     let size = p[at + n];
     if limit < size {
-        return Extent::LengthOver(at + n);
+        return Err(Flaw::LengthOver(at + n));
     }
-    let end = least + size as usize;
-    if p.len() < end {
-        return Extent::Cut;
-    }
-    Extent::Ends(end)
+    end_within(p, least + size as usize)
 }
 
 // A device: ID, designator, software version, NAME, serial number, structure label, localization label, extended label.
-fn dvc_end(p: &[u8], at: usize) -> Extent
+fn dvc_end(p: &[u8], at: usize) -> Result<usize, Flaw>
     requires { at ≤ length p.now }
-    ensures { result ≡ fields_end (layout Dvc) p.now (Ends at) }
+    ensures { result ≡ fields_end (layout Dvc) p.now (Ok at) }
 {
-    let designator = text_end(p, at + 2, 128);
-    let version = next_text(p, designator, 128);
-    let name = skip(version, 8);
-    let serial = next_text(p, name, 128);
-    let structure = skip(serial, 7);
-    let localization = skip(structure, 7);
-    let extended = next_text(p, localization, 32);
-    close(p, extended)
+    let version_at = text_end(p, at + 2, 128)?;
+    let name_at = text_end(p, version_at, 128)?;
+    let structure_at = text_end(p, name_at + 8, 128)?;
+    text_end(p, structure_at + 7 + 7, 32)
 }
 
-// A device element in a pool that is too short for one: ID, type, designator, element number, parent ID, entries.
-fn det_cut(p: &[u8], at: usize) -> Extent
+// A device element: ID, type, designator, element number, parent ID, entries. As with other records, where it would end with no text and
+// no entry is computed without the length byte.
+fn det_end(p: &[u8], at: usize) -> Result<usize, Flaw>
     requires { at ≤ length p.now }
-    ensures { result ≡ fields_end (layout Det) p.now (Ends at) }
-{
-    let designator = text_behind(p, at, 2 + 1, 128);
-    let number = skip(designator, 2);
-    let parent = skip(number, 2);
-    let list = next_entries(p, parent);
-    close(p, list)
-}
-
-// The same in any pool. As with other records, where it would end with no text and no entry is computed without the length byte.
-fn det_end(p: &[u8], at: usize) -> Extent
-    requires { at ≤ length p.now }
-    ensures { result ≡ fields_end (layout Det) p.now (Ends at) }
+    ensures { result ≡ fields_end (layout Det) p.now (Ok at) }
 {
     let least = at + 10;
     if p.len() < least {
-        return det_cut(p, at);
+        return Err(short_flaw(p, at + 3, 128));
     }
     let size = p[at + 3];
     if 128 < size {
-        return Extent::LengthOver(at + 3);
+        return Err(Flaw::LengthOver(at + 3));
     }
-    let entries_at = least + size as usize;
-    if p.len() < entries_at {
-        return Extent::Cut;
-    }
-    let count = wire::pair(p, entries_at - 2);
-    let end = entries_at + 2 * count as usize;
-    if p.len() < end {
-        return Extent::Cut;
-    }
-    Extent::Ends(end)
+    let entries_at = end_within(p, least + size as usize)?;
+    let count = wire::within::<u16>(p, entries_at - 2);
+    end_within(p, entries_at + 2 * count as usize)
 }
 
 // Process data: ID, DDI, properties, trigger methods, designator, presentation ID.
-fn dpd_end(p: &[u8], at: usize) -> Extent
+fn dpd_end(p: &[u8], at: usize) -> Result<usize, Flaw>
     requires { at ≤ length p.now }
-    ensures { result ≡ fields_end (layout Dpd) p.now (Ends at) }
+    ensures { result ≡ fields_end (layout Dpd) p.now (Ok at) }
 {
     text_within(p, at, 2 + 2 + 1 + 1, 128, 2)
 }
 
 // A property: ID, DDI, value, designator, presentation ID. It does not use the same function as process data: the compiler would merge
-// the two, and each step would wait longer.
-fn dpt_end(p: &[u8], at: usize) -> Extent
+// the two, and each step would wait longer. What is left of the pool is tested, so that the walk from record to record waits for the
+// length byte alone.
+fn dpt_end(p: &[u8], at: usize) -> Result<usize, Flaw>
     requires { at ≤ length p.now }
-    ensures { result ≡ fields_end (layout Dpt) p.now (Ends at) }
+    ensures { result ≡ fields_end (layout Dpt) p.now (Ok at) }
 {
-    let designator = text_behind(p, at, 2 + 2 + 4, 128);
-    let presentation = skip(designator, 2);
-    close(p, presentation)
+    if p.len() - at <= 2 + 2 + 4 {
+        return Err(Flaw::Cut);
+    }
+    let size = p[at + 8];
+    if 128 < size {
+        return Err(Flaw::LengthOver(at + 8));
+    }
+    end_within(p, at + 8 + 1 + size as usize + 2)
 }
 
 // A value presentation: ID, offset, scale, decimals, unit text.
-fn dvp_end(p: &[u8], at: usize) -> Extent
+fn dvp_end(p: &[u8], at: usize) -> Result<usize, Flaw>
     requires { at ≤ length p.now }
-    ensures { result ≡ fields_end (layout Dvp) p.now (Ends at) }
+    ensures { result ≡ fields_end (layout Dvp) p.now (Ok at) }
 {
     text_within(p, at, 2 + 4 + 4 + 1, 128, 0)
 }
 
-// Where the fields after a mark end.
-pub(crate) fn marked(p: &[u8], m: Mark, at: usize) -> Extent
+// Where the fields after the mark of a kind end.
+pub(crate) fn marked(p: &[u8], kind: Kind, at: usize) -> Result<usize, Flaw>
     requires { at ≤ length p.now }
-    ensures { result ≡ marked_end m p.now at }
+    ensures { result ≡ fields_end (layout kind) p.now (Ok at) }
 {
-    match m {
-        Mark::Unknown => Extent::NoMark,
-        Mark::Of(k) => match k {
-            Kind::Dvc => dvc_end(p, at),
-            Kind::Det => det_end(p, at),
-            Kind::Dpd => dpd_end(p, at),
-            Kind::Dpt => dpt_end(p, at),
-            Kind::Dvp => dvp_end(p, at),
-        },
+    match kind {
+        Kind::Dvc => dvc_end(p, at),
+        Kind::Det => det_end(p, at),
+        Kind::Dpd => dpd_end(p, at),
+        Kind::Dpt => dpt_end(p, at),
+        Kind::Dvp => dvp_end(p, at),
     }
 }

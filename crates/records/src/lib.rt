@@ -1,11 +1,11 @@
 // The five records of annex A: their marks, where a record ends, and what fields it has. Every public function takes any bytes and any
-// place, except that `marked_kind`, `kind_number`, `is_data` and `parent_id` of `view` require a mark at the place.
+// place, except that `marked`, `kind_number`, `is_data` and `parent_id` of `view` require a mark at the place.
 #![tactic(auto)]
 
 mod end;
 pub mod view;
 
-#[derive(Clone, Copy)]
+#[derive(Clone, Copy, PartialEq, Eq)]
 pub enum Kind {
     Dvc,
     Det,
@@ -14,17 +14,10 @@ pub enum Kind {
     Dvp,
 }
 
-// The kind that the first three bytes of a record tell.
+// The first thing wrong with a record, read from left to right: it begins with no mark, the pool ends inside it, or the length byte at a
+// place is over its limit.
 #[derive(Clone, Copy)]
-pub enum Mark {
-    Of(Kind),
-    Unknown,
-}
-
-// A record at a place, read from left to right: where it ends, or the first thing wrong with it.
-#[derive(Clone, Copy)]
-pub enum Extent {
-    Ends(usize),
+pub enum Flaw {
     NoMark,
     Cut,
     LengthOver(usize),
@@ -90,61 +83,49 @@ pub struct ValuePresentation {
 }
 
 ghost use Rattle.std.specs.Prelude.{◌≡◌, [], ◌∷◌};
-ghost use Rattle.records.specs.Layout.{mark_code, mark_of, three};
+ghost use Rattle.records.specs.Layout.{kind_code, mark_of};
 ghost use Rattle.records.specs.Extents.{extent_of};
 ghost use Rattle.records.specs.Answer.{extent_answer, record_answer};
 
-// The kind by the three letters of its mark. The second and third letters are compared as one number.
-fn mark_of(a: u8, b: u8, c: u8) -> Mark
-    ensures { result ≡ mark_of (a ∷ b ∷ c ∷ []) }
-{
-    if a != b'D' {
-        return Mark::Unknown;
-    }
-    let letters = b as u16 + 256 * c as u16;
-    if letters == 0x4450 {
-        return Mark::Of(Kind::Dpd);
-    }
-    if letters == 0x5450 {
-        return Mark::Of(Kind::Dpt);
-    }
-    if letters == 0x5445 {
-        return Mark::Of(Kind::Det);
-    }
-    if letters == 0x5056 {
-        return Mark::Of(Kind::Dvp);
-    }
-    if letters == 0x4356 {
-        return Mark::Of(Kind::Dvc);
-    }
-    Mark::Unknown
-}
+// The number of a kind in the working table.
+impl From<Kind> for u16 {
+    ghost from_gives = { λ kind number. number ≡ kind_code kind };
 
-fn mark_number(m: Mark) -> u16
-    ensures { result ≡ mark_code m }
-{
-    match m {
-        Mark::Unknown => 0,
-        Mark::Of(k) => match k {
+    fn from(kind: Kind) -> u16 {
+        match kind {
             Kind::Dvc => 1,
             Kind::Det => 2,
             Kind::Dpd => 3,
             Kind::Dpt => 4,
             Kind::Dvp => 5,
-        },
+        }
+    }
+}
+
+// The kind by the three letters of its mark. The second and third letters are compared as one number, with the third in its upper byte.
+fn mark_of(a: u8, b: u8, c: u8) -> Option<Kind>
+    ensures { result ≡ mark_of (a ∷ b ∷ c ∷ []) }
+{
+    if a != b'D' {
+        return None;
+    }
+    match b as u16 + 256 * c as u16 {
+        0x4450 => Some(Kind::Dpd),
+        0x5450 => Some(Kind::Dpt),
+        0x5445 => Some(Kind::Det),
+        0x5056 => Some(Kind::Dvp),
+        0x4356 => Some(Kind::Dvc),
+        _ => None,
     }
 }
 
 // Where the record that starts at a place ends, also by the numbers of document 01.
-pub fn record_extent(p: &[u8], at: usize) -> Extent
+pub fn record_extent(p: &[u8], at: usize) -> Result<usize, Flaw>
     ensures { (result ≡ extent_of p.now at) × (extent_answer at result ≡ record_answer p.now at) }
 {
-    if p.len() < at {
-        return Extent::Cut;
+    if p.len() < at || p.len() - at < 3 {
+        return Err(Flaw::Cut);
     }
-    if p.len() - at < 3 {
-        return Extent::Cut;
-    }
-    let m = mark_of(p[at], p[at + 1], p[at + 2]);
-    end::marked(p, m, at + 3)
+    let kind = mark_of(p[at], p[at + 1], p[at + 2]).ok_or(Flaw::NoMark)?;
+    end::marked(p, kind, at + 3)
 }

@@ -4,54 +4,45 @@ ghost use Rattle.std.specs.Prelude.{◌≡◌, ◌||◌, eqb};
 ghost use Rattle.records.specs.Layout.{mark_code, mark_of, three};
 ghost use Rattle.records.specs.Places.{id_of, parent_id_of};
 
-use super::Mark;
+use super::Kind;
 
-pub fn mark(p: &[u8], at: u16) -> Mark
+// The kind of the record at a place, if there is a mark.
+pub fn mark(p: &[u8], at: u16) -> Option<Kind>
     ensures { result ≡ mark_of (three p.now at) }
 {
     let start = at as usize;
-    super::mark_of(
-        wire::read_u8(p, start),
-        wire::read_u8(p, start + 1),
-        wire::read_u8(p, start + 2),
-    )
-}
-
-// The number of the record's kind, 0 if there is no mark at the place.
-pub fn kind(p: &[u8], at: u16) -> u16
-    ensures { result ≡ mark_code (mark_of (three p.now at)) }
-{
-    let start = at as usize;
     if p.len() < start + 3 {
-        return 0;
+        return None;
     }
-    super::mark_number(super::mark_of(p[start], p[start + 1], p[start + 2]))
+    super::mark_of(p[start], p[start + 1], p[start + 2])
 }
 
-// The same if it is known that there is a mark, for a caller that branches on the kind: two letters tell the marks apart.
-pub fn marked_kind(p: &[u8], at: u16) -> u16
+// The kind of a record if it is known that there is a mark: two letters tell the marks apart. This and the functions below take a pool
+// and a place, and no struct of both that holds the mark: naming's list of records holds it for all its places, and a caller would build
+// the struct for a single call.
+pub fn marked(p: &[u8], at: u16) -> Kind
     requires { mark_code (mark_of (three p.now at)) ≡ 0 → ⊥ }
-    ensures { result ≡ mark_code (mark_of (three p.now at)) }
+    ensures { mark_of (three p.now at) ≡ Some result }
 {
     let start = at as usize;
     let second = p[start + 1];
     let third = p[start + 2];
     if second == b'P' {
         if third == b'D' {
-            return 3;
+            return Kind::Dpd;
         }
-        return 4;
+        return Kind::Dpt;
     }
     if second == b'E' {
-        return 2;
+        return Kind::Det;
     }
     if third == b'P' {
-        return 5;
+        return Kind::Dvp;
     }
-    1
+    Kind::Dvc
 }
 
-// The same without a branch, for a caller that stores or compares the kind: the two letters as a number, times 6663, have the kind in
+// The number of the same kind without a branch, as the working table stores it for C: the two letters, as a number, times 6663 have it in
 // bits 15 to 17.
 pub fn kind_number(p: &[u8], at: u16) -> u16
     requires { mark_code (mark_of (three p.now at)) ≡ 0 → ⊥ }
@@ -74,7 +65,7 @@ pub fn is_data(p: &[u8], at: u16) -> bool
 pub fn id(p: &[u8], at: u16) -> u16
     ensures { result ≡ id_of p.now at }
 {
-    wire::read_u16(p, at as usize + 3)
+    wire::read::<u16>(p, at as usize + 3)
 }
 
 // The parent ID of a record with a mark: a device element's own field, behind its designator and its element number. No other kind has
@@ -83,10 +74,10 @@ pub fn parent_id(p: &[u8], at: u16) -> u16
     requires { mark_code (mark_of (three p.now at)) ≡ 0 → ⊥ }
     ensures { result ≡ parent_id_of p.now at }
 {
-    if kind_number(p, at) != 2 {
+    if kind_number(p, at) != u16::from(Kind::Det) {
         return 65535;
     }
     let length_at = at as usize + 6;
     let number_at = length_at + 1 + wire::read_u8(p, length_at) as usize;
-    wire::read_u16(p, number_at + 2)
+    wire::read::<u16>(p, number_at + 2)
 }

@@ -5,3 +5,4 @@ pub mod Seen
 pub mod Walking
 pub mod Linked
 pub mod Linking
+pub mod Listed

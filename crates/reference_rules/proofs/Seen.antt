@@ -3,45 +3,37 @@ use mathlib.Core.Path.{◌≡◌, refl, sym, ap, ◌∙◌}
 use mathlib.Core.Bool.{true, false}
 use mathlib.Core.Logic.{◌⊎◌, inl, inr, ⊎_elim}
 use mathlib.Core.List.{List}
-use Prim.Native.Nat.{ℕ, zero, suc, ◌+◌, ◌<◌, ◌≤◌}
+use Prim.Native.Nat.{ℕ, zero, suc, ◌+◌, ◌<◌}
 use native.Mathlib.Nat.{eq-or-lt_of_le}
-use native.Mathlib.Decide.{dec_lt}
 use native.Mathlib.Omega.{arith}
 use borrow.Author.Tests.{ne_eqb}
-use lib.ListN.{length, get_or, set}
-use lib.Seq.{get_or-set_same, get_or-set_other}
+use lib.ListN.{length, get_or, set, take}
+use lib.Seq.{get_or-take, get_or-set_same, get_or-set_other}
 use Rattle.naming.specs.Naming.{among}
 use Rattle.rules.specs.Table.{doubled}
 use Rattle.rules.proofs.Doubles.{some-among}
 use Rattle.reference_rules.specs.Lists.{Holds, Seen}
 
--- ---- a part of a list
+-- ---- the first items of a list
 
-pub holds-none : {l : List ℕ} {a x : ℕ} → Holds l a a x → ⊥
-holds-none h = omega (arith, h.after, h.before)
+pub holds-none : {l : List ℕ} {x : ℕ} → Holds l 0 x → ⊥
+holds-none h = omega (arith, h.before)
 
 -- a place before the next is before this one or is this one
-last : {l : List ℕ} {from k x : ℕ} → Holds l from (k + 1) x → Holds l from k x ⊎ (get_or l k 0 ≡ x)
-last {l} {from} {k} {x} h =
+last : {l : List ℕ} {k x : ℕ} → Holds l (k + 1) x → Holds l k x ⊎ (get_or l k 0 ≡ x)
+last {l} {k} {x} h =
     ⊎_elim
     (λ (e : h.at ≡ k). inr (ap (λ (i : ℕ). get_or l i 0) (sym e) ∙ h.is))
-    (λ (b : h.at < k). inl (record { at = h.at; after = h.after; before = b; is = h.is }))
+    (λ (b : h.at < k). inl (record { at = h.at; before = b; is = h.is }))
     (eq-or-lt_of_le (omega (arith, h.before)))
 
--- one place
-pub holds-here : {l : List ℕ} {k x : ℕ} → get_or l k 0 ≡ x → Holds l k (k + 1) x
-holds-here {l} {k} e = record { at = k; after = omega arith; before = omega arith; is = e }
+-- it is not among the first items, and not the next one
+pub holds-nowhere : {l : List ℕ} {k x : ℕ} → (Holds l k x → ⊥) → (get_or l k 0 ≡ x → ⊥) → Holds l (k + 1) x → ⊥
+holds-nowhere before here h = ⊎_elim before here (last h)
 
-pub holds-one : {l : List ℕ} {k x : ℕ} → Holds l k (k + 1) x → get_or l k 0 ≡ x
-holds-one {l} {k} {x} h = ⊎_elim (λ (i : Holds l k k x). absurd (holds-none i)) (λ (e : get_or l k 0 ≡ x). e) (last h)
-
--- nothing in a part, and nothing in the next
-pub holds-nowhere : {l : List ℕ} {k end x : ℕ} → (Holds l 0 k x → ⊥) → (Holds l k end x → ⊥) → Holds l 0 end x → ⊥
-holds-nowhere {l} {k} {end} {x} before after h = go (dec_lt h.at k)
-  where
-    go : Dec (h.at < k) → ⊥
-    go (yes b) = before (record { at = h.at; after = h.after; before = b; is = h.is })
-    go (no b) = after (record { at = h.at; after = omega arith; before = h.before; is = h.is })
+-- what is among the first items is among them alone
+pub among_kept : {l : List ℕ} {k x : ℕ} → Holds l k x → Holds (take k l) k x
+among_kept {l} {k} h = record { at = h.at; before = h.before; is = get_or-take k l h.at 0 h.before ∙ h.is }
 
 -- ---- the tags
 
@@ -67,13 +59,13 @@ unfolding doubled
 earlier tag m j t l e = rw (ne_eqb (tag m) 0 t, some-among tag (tag m) m j l e)
 
 -- an entry whose DDI has been seen doubles one
-pub met : (tag : ℕ → ℕ) (m : ℕ) (seen : List ℕ) (kept k end x : ℕ) → Seen tag m seen kept → tag m ≡ suc x → end ≤ kept → Holds seen k end x → doubled tag m ≡ true
-met tag m seen kept k end x s e b h =
-    let d : (j : ℕ) × (j < m) × (tag j ≡ suc x) = s.some x (record { at = h.at; after = omega arith; before = omega (arith, h.before); is = h.is }) in
+pub met : (tag : ℕ → ℕ) (m : ℕ) (seen : List ℕ) (kept x : ℕ) → Seen tag m seen kept → tag m ≡ suc x → Holds seen kept x → doubled tag m ≡ true
+met tag m seen kept x s e h =
+    let d : (j : ℕ) × (j < m) × (tag j ≡ suc x) = s.some x (h) in
     earlier tag m d.0 (λ (z : tag m ≡ 0). omega (arith, e, z)) d.1 (d.2 ∙ sym e)
 
 -- and one that has not doubles none
-pub unmet : (tag : ℕ → ℕ) (m : ℕ) (seen : List ℕ) (kept x : ℕ) → Seen tag m seen kept → tag m ≡ suc x → (Holds seen 0 kept x → ⊥) → doubled tag m ≡ false
+pub unmet : (tag : ℕ → ℕ) (m : ℕ) (seen : List ℕ) (kept x : ℕ) → Seen tag m seen kept → tag m ≡ suc x → (Holds seen kept x → ⊥) → doubled tag m ≡ false
 unmet tag m seen kept x s e h =
     lone tag m (λ (z : tag m ≡ 0). omega (arith, e, z)) (λ (j : ℕ) (l : j < m) (q : tag j ≡ tag m). h (s.all x j l (q ∙ e)))
 
@@ -82,15 +74,15 @@ unmet tag m seen kept x s e h =
 pub seen_start : (tag : ℕ → ℕ) (seen : List ℕ) → Seen tag 0 seen 0
 seen_start tag seen =
     record {
-      some = λ (x : ℕ) (h : Holds seen 0 0 x). absurd (holds-none h);
+      some = λ (x : ℕ) (h : Holds seen 0 x). absurd (holds-none h);
       all = λ (x j : ℕ) (l : j < 0) (e : tag j ≡ suc x). absurd (omega arith);
     }
 
 -- nothing new
-stays : (tag : ℕ → ℕ) (m : ℕ) (seen : List ℕ) (kept : ℕ) → Seen tag m seen kept → ((x : ℕ) → tag m ≡ suc x → Holds seen 0 kept x) → Seen tag (m + 1) seen kept
+stays : (tag : ℕ → ℕ) (m : ℕ) (seen : List ℕ) (kept : ℕ) → Seen tag m seen kept → ((x : ℕ) → tag m ≡ suc x → Holds seen kept x) → Seen tag (m + 1) seen kept
 stays tag m seen kept s h =
     record {
-      some = λ (x : ℕ) (i : Holds seen 0 kept x). let d = s.some x i in (d.0, omega (arith, d.1), d.2);
+      some = λ (x : ℕ) (i : Holds seen kept x). let d = s.some x i in (d.0, omega (arith, d.1), d.2);
       all =
           λ (x j : ℕ) (l : j < m + 1) (e : tag j ≡ suc x).
           ⊎_elim (λ (q : j ≡ m). h x (ap tag (sym q) ∙ e)) (λ (q : j < m). s.all x j q e) (eq-or-lt_of_le (omega arith));
@@ -99,19 +91,19 @@ stays tag m seen kept s h =
 pub seen_plain : (tag : ℕ → ℕ) (m : ℕ) (seen : List ℕ) (kept : ℕ) → Seen tag m seen kept → tag m ≡ 0 → Seen tag (m + 1) seen kept
 seen_plain tag m seen kept s e = stays tag m seen kept s (λ (x : ℕ) (q : tag m ≡ suc x). absurd (omega (arith, e, q)))
 
-pub seen-met : (tag : ℕ → ℕ) (m : ℕ) (seen : List ℕ) (kept k end x : ℕ) → Seen tag m seen kept → tag m ≡ suc x → end ≤ kept → Holds seen k end x → Seen tag (m + 1) seen kept
-seen-met tag m seen kept k end x s e b h =
+pub seen-met : (tag : ℕ → ℕ) (m : ℕ) (seen : List ℕ) (kept x : ℕ) → Seen tag m seen kept → tag m ≡ suc x → Holds seen kept x → Seen tag (m + 1) seen kept
+seen-met tag m seen kept x s e h =
     stays tag m seen kept s
-    (λ (y : ℕ) (q : tag m ≡ suc y). record { at = h.at; after = omega arith; before = omega (arith, h.before); is = h.is ∙ omega (arith, e, q) })
+    (λ (y : ℕ) (q : tag m ≡ suc y). record { at = h.at; before = h.before; is = h.is ∙ omega (arith, e, q) })
 
 -- one DDI more
 pub seen-new : (tag : ℕ → ℕ) (m : ℕ) (seen : List ℕ) (kept x : ℕ) → kept < length seen → Seen tag m seen kept → tag m ≡ suc x → Seen tag (m + 1) (set seen kept x) (kept + 1)
 seen-new tag m seen kept x b s e =
     record {
       some =
-          λ (y : ℕ) (h : Holds (set seen kept x) 0 (kept + 1) y).
+          λ (y : ℕ) (h : Holds (set seen kept x) (kept + 1) y).
           ⊎_elim
-          (λ (i : Holds (set seen kept x) 0 kept y). let d = s.some y (older i) in (d.0, omega (arith, d.1), d.2))
+          (λ (i : Holds (set seen kept x) kept y). let d = s.some y (older i) in (d.0, omega (arith, d.1), d.2))
           (λ (i : get_or (set seen kept x) kept 0 ≡ y). (m, omega arith, e ∙ ap suc (sym (get_or-set_same seen kept x 0 b) ∙ i)))
           (last h);
       all =
@@ -119,25 +111,23 @@ seen-new tag m seen kept x b s e =
           ⊎_elim
           (λ (w : j ≡ m).
           let same : x ≡ y = omega (arith, e, ap tag (sym w) ∙ q) in
-          record { at = kept; after = omega arith; before = omega arith; is = get_or-set_same seen kept x 0 b ∙ same })
+          record { at = kept; before = omega arith; is = get_or-set_same seen kept x 0 b ∙ same })
           (λ (w : j < m). newer (s.all y j w q))
           (eq-or-lt_of_le (omega arith));
     }
   where
-    older : {y : ℕ} → Holds (set seen kept x) 0 kept y → Holds seen 0 kept y
+    older : {y : ℕ} → Holds (set seen kept x) kept y → Holds seen kept y
     older h =
         record {
           at = h.at;
-          after = h.after;
           before = h.before;
           is = sym (get_or-set_other seen kept h.at x 0 (λ (w : h.at ≡ kept). let c : h.at < kept = h.before in omega arith)) ∙ h.is;
         }
 
-    newer : {y : ℕ} → Holds seen 0 kept y → Holds (set seen kept x) 0 (kept + 1) y
+    newer : {y : ℕ} → Holds seen kept y → Holds (set seen kept x) (kept + 1) y
     newer h =
         record {
           at = h.at;
-          after = h.after;
           before = omega (arith, h.before);
           is = get_or-set_other seen kept h.at x 0 (λ (w : h.at ≡ kept). let c : h.at < kept = h.before in omega arith) ∙ h.is;
         }

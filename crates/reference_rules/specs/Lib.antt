@@ -1,2 +1,3 @@
 -- What the contracts of `reference_rules` cite.
 pub mod Lists
+pub mod Entries

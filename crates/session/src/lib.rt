@@ -6,7 +6,7 @@ ghost use Rattle.std.specs.Prelude.{◌≡◌, length};
 ghost use Rattle.session.specs.Answers.{reply, reply_of, reply_in};
 ghost use Rattle.session.specs.Calls.{is_offered, new_session, ended, impossible, step_of, offer_of, transfer_of, staging_after, deactivate_of, delete_of, lost_of};
 
-// Stage 0 is none and 1 offered; active is 0 or 1. A value with any other number is impossible.
+// Stage 0 is none and 1 offered; active is 0 or 1: numbers, since C holds the value. A value with any other number is impossible.
 #[repr(C)]
 #[derive(Clone, Copy)]
 pub struct Session {
@@ -17,47 +17,46 @@ pub struct Session {
     pub active: u16,
 }
 
-// What a call answers. The refusals are in the order of their numbers: 3 to 7 from reading the pool, then 20 to 27.
+// A fault of a pool, with the object ID and the parent ID of its record.
 #[derive(Clone, Copy)]
-pub enum Answer {
-    Done,
-    NoMark(usize),
-    Cut(usize),
-    LengthOver(usize),
-    TooMany,
-    TableShort(usize),
+pub struct Fault {
+    pub record: u16,
+    pub rule: u16,
+    pub item: u16,
+    pub id: u16,
+    pub parent: u16,
+}
+
+// Why a call is refused, in the order of the numbers: 3 to 7 from reading the pool, then 20 to 27.
+#[derive(Clone, Copy)]
+pub enum Refusal {
+    Unread(pool::Refusal),
     BadSize,
     NotOffered,
     BadPiece,
     Incomplete,
-    Faulty {
-        record: u16,
-        rule: u16,
-        item: u16,
-        id: u16,
-        parent: u16,
-    },
+    Faulty(Fault),
     NotActive,
     NoRoom,
     CannotArise,
 }
 
+pub type Answer = Result<(), Refusal>;
+
+// The session value after a call, and the call's answer.
 #[derive(Clone, Copy)]
 pub struct Step {
     pub session: Session,
     pub answer: Answer,
 }
 
-// An answer in numbers.
+// An answer in numbers, as C is told it: 0, or a refusal's number with its place or the first fault. It is no Result, since C's structs
+// have all of them whatever the answer is.
 #[derive(Clone, Copy)]
 pub struct Numbers {
     pub number: u32,
     pub place: usize,
-    pub record: u16,
-    pub rule: u16,
-    pub item: u16,
-    pub id: u16,
-    pub parent: u16,
+    pub fault: Fault,
 }
 
 pub fn new() -> Session
@@ -87,6 +86,7 @@ pub fn is_impossible(s: Session) -> bool
     unknown | too_large | empty_offer | too_much | nothing_active | announced | received
 }
 
+// A step that leaves the session as it was.
 pub fn refuse(s: Session, answer: Answer) -> Step
     ensures { step_of result ≡ record { session = s; reply = reply_of answer } }
 {
@@ -100,9 +100,8 @@ pub fn end_stage(s: Session) -> Session
     Session {
         announced: 0,
         received: 0,
-        kept: s.kept,
         stage: 0,
-        active: s.active,
+        ..s
     }
 }
 
@@ -111,23 +110,22 @@ pub fn offer(s: Session, size: usize, staging: &[u8], kept: &[u8]) -> Step
     ensures { step_of result ≡ offer_of s size (length staging.now) (length kept.now) }
 {
     if is_impossible(s) {
-        return refuse(s, Answer::CannotArise);
+        return refuse(s, Err(Refusal::CannotArise));
     }
     if (size == 0) | (65535 < size) {
-        return refuse(s, Answer::BadSize);
+        return refuse(s, Err(Refusal::BadSize));
     }
     if (staging.len() < size) | (kept.len() < size) {
-        return refuse(s, Answer::NoRoom);
+        return refuse(s, Err(Refusal::NoRoom));
     }
     Step {
         session: Session {
             announced: size as u32,
             received: 0,
-            kept: s.kept,
             stage: 1,
-            active: s.active,
+            ..s
         },
-        answer: Answer::Done,
+        answer: Ok(()),
     }
 }
 
@@ -136,29 +134,27 @@ pub fn transfer(s: Session, piece: &[u8], staging: &mut [u8]) -> Step
     ensures { (step_of result ≡ transfer_of s piece.now (length staging.old)) × (staging.new ≡ staging_after s piece.now staging.old) }
 {
     if is_impossible(s) {
-        return refuse(s, Answer::CannotArise);
+        return refuse(s, Err(Refusal::CannotArise));
     }
     if s.stage != 1 {
-        return refuse(s, Answer::NotOffered);
+        return refuse(s, Err(Refusal::NotOffered));
     }
     let announced = s.announced as usize;
     let received = s.received as usize;
     if (piece.len() == 0) | (announced - received < piece.len()) {
-        return refuse(s, Answer::BadPiece);
+        return refuse(s, Err(Refusal::BadPiece));
     }
     if staging.len() < announced {
-        return refuse(s, Answer::NoRoom);
+        return refuse(s, Err(Refusal::NoRoom));
     }
     wire::copy(piece, &mut staging[received..], 0);
     Step {
         session: Session {
-            announced: s.announced,
             received: (received + piece.len()) as u32,
-            kept: s.kept,
             stage: 1,
-            active: s.active,
+            ..s
         },
-        answer: Answer::Done,
+        answer: Ok(()),
     }
 }
 
@@ -166,20 +162,14 @@ pub fn deactivate(s: Session) -> Step
     ensures { step_of result ≡ deactivate_of s }
 {
     if is_impossible(s) {
-        return refuse(s, Answer::CannotArise);
+        return refuse(s, Err(Refusal::CannotArise));
     }
     if s.active == 0 {
-        return refuse(s, Answer::NotActive);
+        return refuse(s, Err(Refusal::NotActive));
     }
     Step {
-        session: Session {
-            announced: s.announced,
-            received: s.received,
-            kept: s.kept,
-            stage: s.stage,
-            active: 0,
-        },
-        answer: Answer::Done,
+        session: Session { active: 0, ..s },
+        answer: Ok(()),
     }
 }
 
@@ -188,11 +178,11 @@ pub fn delete(s: Session) -> Step
     ensures { step_of result ≡ delete_of s }
 {
     if is_impossible(s) {
-        return refuse(s, Answer::CannotArise);
+        return refuse(s, Err(Refusal::CannotArise));
     }
     Step {
         session: new(),
-        answer: Answer::Done,
+        answer: Ok(()),
     }
 }
 
@@ -201,66 +191,57 @@ pub fn lost(s: Session) -> Step
     ensures { step_of result ≡ lost_of s }
 {
     if is_impossible(s) {
-        return refuse(s, Answer::CannotArise);
+        return refuse(s, Err(Refusal::CannotArise));
     }
     Step {
         session: Session {
-            announced: 0,
-            received: 0,
-            kept: s.kept,
-            stage: 0,
             active: 0,
+            ..end_stage(s)
         },
-        answer: Answer::Done,
+        answer: Ok(()),
     }
 }
 
+const NO_FAULT: Fault = Fault {
+    record: 0,
+    rule: 0,
+    item: 0,
+    id: 0,
+    parent: 0,
+};
+
+// A number with its place, and no fault.
 fn plain(number: u32, place: usize) -> Numbers
     ensures { reply_in result ≡ reply number place }
 {
     Numbers {
         number,
         place,
-        record: 0,
-        rule: 0,
-        item: 0,
-        id: 0,
-        parent: 0,
+        fault: NO_FAULT,
     }
 }
 
-// Document 01's number for an answer, with its place or first fault; zeros if it has none.
-pub fn numbers_of(answer: Answer) -> Numbers
-    ensures { reply_in result ≡ reply_of answer }
-{
-    match answer {
-        Answer::Done => plain(0, 0),
-        Answer::NoMark(at) => plain(3, at),
-        Answer::Cut(at) => plain(4, at),
-        Answer::LengthOver(at) => plain(5, at),
-        Answer::TooMany => plain(6, 0),
-        Answer::TableShort(needed) => plain(7, needed),
-        Answer::BadSize => plain(20, 0),
-        Answer::NotOffered => plain(21, 0),
-        Answer::BadPiece => plain(22, 0),
-        Answer::Incomplete => plain(23, 0),
-        Answer::Faulty {
-            record,
-            rule,
-            item,
-            id,
-            parent,
-        } => Numbers {
-            number: 24,
-            place: 0,
-            record,
-            rule,
-            item,
-            id,
-            parent,
-        },
-        Answer::NotActive => plain(25, 0),
-        Answer::NoRoom => plain(26, 0),
-        Answer::CannotArise => plain(27, 0),
+impl From<Answer> for Numbers {
+    ghost from_gives = { λ answer numbers. reply_in numbers ≡ reply_of answer };
+
+    fn from(answer: Answer) -> Numbers {
+        let Err(refusal) = answer else {
+            return plain(0, 0);
+        };
+        match refusal {
+            Refusal::Unread(r) => plain(u32::from(r), r.place()),
+            Refusal::BadSize => plain(20, 0),
+            Refusal::NotOffered => plain(21, 0),
+            Refusal::BadPiece => plain(22, 0),
+            Refusal::Incomplete => plain(23, 0),
+            Refusal::Faulty(fault) => Numbers {
+                number: 24,
+                place: 0,
+                fault,
+            },
+            Refusal::NotActive => plain(25, 0),
+            Refusal::NoRoom => plain(26, 0),
+            Refusal::CannotArise => plain(27, 0),
+        }
     }
 }

@@ -13,7 +13,7 @@ use working_table::Record;
 pub fn lachsbrille_message_read(bytes: &[u8]) -> MessageFields
     ensures { fields_in result ≡ read_of bytes.now }
 {
-    c_answers::give_message(messages::read(bytes))
+    messages::read(bytes).into()
 }
 
 // Writes a value message.
@@ -54,8 +54,8 @@ pub fn lachsbrille_judge(
 ) -> u32
     ensures { (result ≡ judge_number p.now (length table.old) element) × (error.new ≡ judge_error p.now (length table.old) command element ddi value) × (table.new ≡ records_judged p.now table.old element) }
 {
-    if p.len() <= 12276 {
-        return super::pools::judge_short(p, table, command, element, ddi, value, error);
+    match commands::judge(p, table, command, element, ddi, value) {
+        Ok(byte) => c_answers::give_judgement(0, byte, error),
+        Err(reason) => c_answers::give_judgement(reason.into(), 0, error),
     }
-    super::pools::judge_long(p, table, command, element, ddi, value, error)
 }

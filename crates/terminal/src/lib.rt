@@ -3,13 +3,13 @@
 #![tactic(auto)]
 
 use queries::DeviceLabels;
+use records::Span;
 use working_table::Record;
 
 pub mod display;
 pub mod exchange;
 pub mod logs;
 pub mod objects;
-mod pools;
 pub mod sessions;
 
 ghost use Rattle.std.specs.Prelude.{◌≡◌, length};
@@ -32,10 +32,7 @@ pub fn lachsbrille_version() -> u32
 pub fn lachsbrille_read(p: &[u8], table: &mut [Record], value: &mut usize) -> u32
     ensures { Says (read_of p.now (length table.old)) result value.new × (table.new ≡ records_after p.now table.old) }
 {
-    if p.len() <= 12276 {
-        return pools::read_short(p, table, value);
-    }
-    pools::read_long(p, table, value)
+    c_answers::give_outcome(working_table::read(p, table), value)
 }
 
 // Checks a pool. The full count of faults or the refusal's place is written to the lent number.
@@ -47,10 +44,7 @@ pub fn lachsbrille_check(
 ) -> u32
     ensures { Says (check_of p.now (length table.old)) result value.new × (table.new ≡ records_after p.now table.old) × (faults.new ≡ faults_after p.now (length table.old) faults.old) }
 {
-    if p.len() <= 12276 {
-        return pools::check_short(p, table, faults, value);
-    }
-    pools::check_long(p, table, faults, value)
+    c_answers::give_verdict(checker::check(p, table, faults), value)
 }
 
 // Whether a text keeps rule 4.
@@ -70,18 +64,15 @@ pub fn lachsbrille_text(
 ) -> u32
     ensures { Gives p.now (length table.old) id result from.new to.new × (table.new ≡ records_after p.now table.old) }
 {
-    if p.len() <= 12276 {
-        return pools::text_short(p, table, id, from, to);
+    match device_pool::find_text(p, table, id) {
+        Ok(span) => c_answers::give_place(0, span, from, to),
+        Err(refusal) => c_answers::give_place(refusal.into(), Span { from: 0, to: 0 }, from, to),
     }
-    pools::text_long(p, table, id, from, to)
 }
 
 // The labels of the device, as a struct by value.
 pub fn lachsbrille_labels(p: &[u8], table: &mut [Record]) -> DeviceLabels
     ensures { Labelled p.now (length table.old) result × (table.new ≡ records_after p.now table.old) }
 {
-    if p.len() <= 12276 {
-        return device_pool::labels_short(p, table);
-    }
-    device_pool::labels_long(p, table)
+    device_pool::labels(p, table)
 }

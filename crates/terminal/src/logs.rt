@@ -13,7 +13,7 @@ use time_log::{Fields, Marks};
 pub fn lachsbrille_log_optional_fields(layout: u32) -> Marks
     ensures { (result.number ≡ cond (ltb 511 layout) 47 0) × (result.count ≡ cond (ltb 511 layout) 0 (marks_set layout)) }
 {
-    time_log::optional_fields(layout)
+    time_log::optional_fields(layout).into()
 }
 
 // Reads the record that the bytes start with.
@@ -26,7 +26,7 @@ pub fn lachsbrille_log_read_record(
 ) -> Record
     ensures { (result ≡ read_of layout logged bytes.now (length ordinals.old) (length values.old)) × (ordinals.new ≡ ordinals_after layout logged bytes.now ordinals.old values.old) × (values.new ≡ values_after layout logged bytes.now ordinals.old values.old) }
 {
-    log_reading::read_record(bytes, layout, logged, ordinals, values)
+    log_reading::read_record(bytes, layout, logged, ordinals, values).into()
 }
 
 // Writes a record of the first `count` ordinals and values. The fields are passed by reference: x86-64 and aarch64 pass a struct of
@@ -42,12 +42,12 @@ pub fn lachsbrille_log_write_record(
 ) -> Written
     ensures { (result ≡ written_as (write_refusal layout fields.now logged ordinals.now values.now count (length to.old)) (record_length layout count)) × (to.new ≡ bytes_after to.old layout fields.now logged ordinals.now values.now count) }
 {
-    log_writing::write_record(to, layout, *fields, logged, ordinals, values, count)
+    log_writing::write_record(to, layout, *fields, logged, ordinals, values, count).into()
 }
 
 // Reads the records of a log to its end.
 pub fn lachsbrille_log_read(bytes: &[u8], layout: u32, logged: usize) -> Log
     ensures { result ≡ log_of layout logged bytes.now }
 {
-    log_reading::read_log(bytes, layout, logged)
+    log_reading::read_log(bytes, layout, logged).into()
 }

@@ -19,14 +19,14 @@ pub fn lachsbrille_session_new() -> Session
 pub fn lachsbrille_session_offer(s: Session, size: usize, staging: &[u8], kept: &[u8]) -> StepFields
     ensures { step_in result ≡ offer_of s size (length staging.now) (length kept.now) }
 {
-    c_answers::give_step(session::offer(s, size, staging, kept))
+    session::offer(s, size, staging, kept).into()
 }
 
 // Copies a piece of the pool into staging.
 pub fn lachsbrille_session_transfer(s: Session, piece: &[u8], staging: &mut [u8]) -> StepFields
     ensures { (step_in result ≡ transfer_of s piece.now (length staging.old)) × (staging.new ≡ staging_after s piece.now staging.old) }
 {
-    c_answers::give_step(session::transfer(s, piece, staging))
+    session::transfer(s, piece, staging).into()
 }
 
 // Activates the pool that is offered, or else the one that is kept.
@@ -38,34 +38,26 @@ pub fn lachsbrille_session_activate(
 ) -> StepFields
     ensures { (step_in result ≡ activate_of s staging.now (length kept.old) (length table.old)) × (kept.new ≡ kept_after s staging.now kept.old (length table.old)) × (table.new ≡ records_activated s staging.now (length kept.old) table.old) }
 {
-    let mut starts = [0u16; 5462];
-    let stepped = super::pools::activate_told(s, staging, kept, table.len(), &mut starts);
-    working_table::gather(
-        staging,
-        &starts,
-        super::pools::stepped_records(stepped),
-        table,
-    );
-    super::pools::stepped_step(stepped)
+    activation::activate(s, staging, kept, table).into()
 }
 
 // Deactivates the pool.
 pub fn lachsbrille_session_deactivate(s: Session) -> StepFields
     ensures { step_in result ≡ deactivate_of s }
 {
-    c_answers::give_step(session::deactivate(s))
+    session::deactivate(s).into()
 }
 
 // Forgets the pool that is kept, and an offer.
 pub fn lachsbrille_session_delete(s: Session) -> StepFields
     ensures { step_in result ≡ delete_of s }
 {
-    c_answers::give_step(session::delete(s))
+    session::delete(s).into()
 }
 
 // The connection is lost: no pool is active, an offer is forgotten, and a kept pool stays kept.
 pub fn lachsbrille_session_lost(s: Session) -> StepFields
     ensures { step_in result ≡ lost_of s }
 {
-    c_answers::give_step(session::lost(s))
+    session::lost(s).into()
 }

@@ -11,7 +11,7 @@ use lib.ListN.{length, get_or}
 use lib.Ieee.Fits.{and_l, and_r}
 use lib.Ieee.Bits.{is_true}
 use Rattle.text.specs.Octets.{within, row2, row3, row4, width}
-use Rattle.text.specs.Characters.{characters_in, plus}
+use Rattle.text.specs.Characters.{characters_in, plus, width_at}
 use Rattle.text.specs.Grammar.{Three, e0, e1, ed, ee, Four, f0, f1, f4, Char, one, two, three, four, Text, none, more}
 use Rattle.text.specs.Characters.{Counted, Characters, Malformed}
 
@@ -118,6 +118,24 @@ fourth : (a b c : ℕ) → Four a b c 0 → ⊥
 fourth a b c (f0 t) = and_r (row3 0xF0 0xF0 0x90 0xBF a b c) _ t
 fourth a b c (f1 t) = and_r (row3 0xF1 0xF3 0x80 0xBF a b c) _ t
 fourth a b c (f4 t) = and_r (row3 0xF4 0xF4 0x80 0x8F a b c) _ t
+
+-- a character ends within the text that begins with it
+fits : (a : ℕ) (s : List ℕ) (w : ℕ) → Wide w a (get_or s 0 0) (get_or s 1 0) (get_or s 2 0) → w ≤ suc (length s)
+fits a s w bad = omega arith
+fits a s w (w1 t) = omega arith
+fits a [] w (w2 t) = absurd (second 0xC2 0xDF 0x80 0xBF a tt t)
+fits a (b ∷ s) w (w2 t) = omega arith
+fits a [] w (w3 t) = absurd (third3 a 0 t)
+fits a (b ∷ []) w (w3 t) = absurd (third3 a b t)
+fits a (b ∷ c ∷ s) w (w3 t) = omega arith
+fits a [] w (w4 t) = absurd (fourth a 0 0 t)
+fits a (b ∷ []) w (w4 t) = absurd (fourth a b 0 t)
+fits a (b ∷ c ∷ []) w (w4 t) = absurd (fourth a b c t)
+fits a (b ∷ c ∷ d ∷ s) w (w4 t) = omega arith
+
+pub first_fits : (s : List ℕ) → 0 < length s → width_at s 0 ≤ length s
+first_fits [] h = absurd (omega (arith, h))
+first_fits (a ∷ s) h = fits a s (width a (get_or s 0 0) (get_or s 1 0) (get_or s 2 0)) (wide a (get_or s 0 0) (get_or s 1 0) (get_or s 2 0))
 
 counted : (x : Counted) (n : ℕ) → plus 1 x ≡ Characters n → (m : ℕ) × (x ≡ Characters m) × (n ≡ suc m)
 counted (Characters m) n e = (m, refl, (let i : 1 + m ≡ n = cc in omega arith))

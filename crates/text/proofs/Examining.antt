@@ -4,15 +4,18 @@ use mathlib.Core.Bool.{Bool, true, false, cond, ◌&&◌, true≢false, and-fals
 use mathlib.Core.List.{List, [], ◌∷◌}
 use Prim.Native.Nat.{ℕ, suc, ◌≤◌, ◌<◌}
 use native.Mathlib.Omega.{arith}
-use borrow.Author.Tests.{le-leb, leb-true, eqb-true}
+use borrow.Author.Tests.{le-leb, leb-true, eqb-true, ne_eqb}
 use lib.Dec.{eqb}
+use native.Mathlib.Decide.{dec_lt}
+use Rattle.std.specs.Str.{IsAscii}
+use Rattle.std.proofs.lemmas.Str.Ascii.{All-from_ascii}
+use Rattle.std.proofs.lemmas.List.Elements.{All-get_or}
 use Rattle.wire.proofs.Either.{both}
 use Rattle.text.specs.Characters.{characters_in}
 use Rattle.text.specs.Examined.{marked, few, sound_text, Sound, Examined}
 use Rattle.text.specs.Characters.{Counted, Characters, Malformed}
-use lib.ListN.{length, get_or}
-use Rattle.text.proofs.Widths.{single}
-use Rattle.text.proofs.Steps.{first-differs}
+use lib.ListN.{length, get_or, get_or-eq_default}
+use Rattle.text.proofs.Steps.{single}
 use Rattle.text.proofs.Derived.{complete, sound}
 
 -- bytes that do not begin with the mark
@@ -56,6 +59,9 @@ kept s t = rw (unmarked s t.plain, complete t.text) (le-leb t.characters 32 t.fe
 pub examined : (s : List ℕ) → Examined s
 examined s = (found s, kept s)
 
+unmarked-first : (s : List ℕ) → (get_or s 0 0 ≡ 0xEF → ⊥) → marked s ≡ false
+unmarked-first s n = rw (ne_eqb (get_or s 0 0) 0xEF n)
+
 -- what the examiner answers, case by case
 pub sound-marked : (s : List ℕ) → marked s ≡ true → sound_text s ≡ false
 unfolding sound_text
@@ -66,14 +72,20 @@ unfolding sound_text
 sound-counted s c m e = rw (m, e)
 
 -- bytes below 80 are a character each
-single-bytes : (s : List ℕ) (high : ℕ) → ((k : ℕ) → get_or s k 0 ≤ high) → high < 0x80 → characters_in 0 s ≡ Characters (length s)
+single-bytes : (s : List ℕ) → ((k : ℕ) → get_or s k 0 < 0x80) → characters_in 0 s ≡ Characters (length s)
 unfolding characters_in
-single-bytes [] high h l = refl
-single-bytes (a ∷ s) high h l =
-    let first : a ≤ high = h 0 in
-    rw (single a (get_or s 0 0) (get_or s 1 0) (get_or s 2 0) (omega arith), single-bytes s high (λ (k : ℕ). h (suc k)) l) (ap Characters (omega arith))
+single-bytes [] h = refl
+single-bytes (a ∷ s) h =
+    rw (single a (get_or s 0 0) (get_or s 1 0) (get_or s 2 0) (h 0), single-bytes s (λ (k : ℕ). h (suc k))) (ap Characters (omega arith))
 
-pub sound-single : (s : List ℕ) (high : ℕ) → ((k : ℕ) → get_or s k 0 ≤ high) → high < 0x80 → length s ≤ 32 → sound_text s ≡ true
-sound-single s high h l n =
-    sound-counted s (Characters (length s)) (first-differs s (λ (e : get_or s 0 0 ≡ 0xEF). omega (arith, h 0))) (single-bytes s high h l)
+pub sound-single : (s : List ℕ) → ((k : ℕ) → get_or s k 0 < 0x80) → length s ≤ 32 → sound_text s ≡ true
+sound-single s h n =
+    sound-counted s (Characters (length s)) (unmarked-first s (λ (e : get_or s 0 0 ≡ 0xEF). omega (arith, h 0))) (single-bytes s h)
     ∙ le-leb (length s) 32 n
+
+pub sound-ascii : (s : List ℕ) → IsAscii s → length s ≤ 32 → sound_text s ≡ true
+sound-ascii s h n = sound-single s (λ (k : ℕ). go k (dec_lt k (length s))) n
+  where
+    go : (k : ℕ) → Dec (k < length s) → get_or s k 0 < 0x80
+    go k (yes l) = All-get_or (λ (b : ℕ). b < 0x80) s k 0 l (All-from_ascii s h)
+    go k (no l) = rw (get_or-eq_default s 0 {n = k} (omega arith)) (omega arith)

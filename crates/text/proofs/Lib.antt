@@ -1,5 +1,4 @@
 -- Laws that are not about a single function.
-pub mod Widths
 pub mod Steps
 pub mod Derived
 pub mod Examining

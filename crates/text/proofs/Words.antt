@@ -77,11 +77,11 @@ unfolding highs
 highs-8 = refl
 
 -- a text's bytes are those of the pool from its place on
-pub bytes_of : (p : List ℕ) (from n : ℕ) → ((k : ℕ) → k < n → get_or p (from + k) 0 < 0x80) → (k : ℕ) → get_or (take n (drop from p)) k 0 ≤ 0x7F
+pub bytes_of : (p : List ℕ) (from n : ℕ) → ((k : ℕ) → k < n → get_or p (from + k) 0 < 0x80) → (k : ℕ) → get_or (take n (drop from p)) k 0 < 0x80
 bytes_of p from n h k = go (dec_lt k n)
   where
-    go : Dec (k < n) → get_or (take n (drop from p)) k 0 ≤ 0x7F
-    go (yes b) = rw (get_or-take n (drop from p) k 0 b, get_or-drop from p k 0) (omega (arith, h k b))
+    go : Dec (k < n) → get_or (take n (drop from p)) k 0 < 0x80
+    go (yes b) = rw (get_or-take n (drop from p) k 0 b, get_or-drop from p k 0) (h k b)
     go (no b) = rw (get_or-eq_default (take n (drop from p)) 0 {n = k} (omega (arith, length-take n (drop from p)))) (omega arith)
 
 -- four words cover 32 bytes

@@ -1,12 +1,8 @@
 -- An optional field as a number of its width. Assumes nothing.
 use mathlib.Core.Path.{◌≡◌, ap, ◌∙◌}
 use mathlib.Core.List.{List}
-use Prim.Native.Nat.{ℕ, ◌+◌, ◌*◌, ◌-◌, ◌≤◌, ◌<◌}
-use native.Mathlib.Omega.{arith}
-use borrow.Author.Tests.{le-ltb}
-use lib.IntN.{nat_abs}
-use Rattle.wire.specs.Bytes.{le_of, number_in, signed_of}
-use Rattle.wire.proofs.Complement.{low}
+use Prim.Native.Nat.{ℕ}
+use Rattle.wire.specs.Bytes.{le_of, number_in}
 use Rattle.time_log.specs.Layout.{part_width, place_of}
 use Rattle.time_log.specs.Contents.{part_at}
 
@@ -18,11 +14,3 @@ read-part layout k w at s x e f g = g ∙ ap (λ (v : ℕ). number_in v s at) e 
 pub absent : (layout k : ℕ) (s : List ℕ) → part_width layout k ≡ 0 → 0 ≡ part_at layout s k
 unfolding part_at number_in le_of
 absent layout k s e = rw e
-
--- how far a number of four bytes is from 0
-pub size_low : (x : ℕ) → x < 2147483648 → x ≡ nat_abs (signed_of 4 x)
-size_low x h = rw (low x h)
-
-pub size-high : (x : ℕ) → 2147483648 ≤ x → x < 4294967296 → 4294967295 - x + 1 ≡ nat_abs (signed_of 4 x)
-unfolding signed_of
-size-high x h f = rw (le-ltb (2 * x) 4294967296 (omega arith)) (omega arith)

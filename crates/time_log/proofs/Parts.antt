@@ -1,10 +1,17 @@
 -- Widths and places of the optional fields. Assumes nothing.
-use mathlib.Core.Path.{◌≡◌, refl}
+use mathlib.Core.Path.{◌≡◌, refl, ap, ◌∙◌}
+use mathlib.Core.List.{List}
 use mathlib.Core.Logic.{◌⊎◌, inl, inr}
 use Prim.Native.Nat.{ℕ, zero, suc, ◌+◌, ◌*◌, ◌-◌, ◌≤◌, ◌<◌}
 use native.Mathlib.Nat.{mod-lt, zero-lt-suc, zero-add, zero-mul, one-mul}
+use native.Mathlib.Numerals.{add-one}
 use native.Mathlib.Omega.{arith}
-use Rattle.time_log.specs.Layout.{mark, width, part_width, place_of}
+use borrow.Author.Tests.{eqb-true, eqb-false}
+use lib.Dec.{eqb}
+use lib.ListN.{length, get_or, set}
+use Rattle.std.proofs.Common.{get_or-set_same, get_or-set_other}
+use Rattle.wire.proofs.Either.{by-case}
+use Rattle.time_log.specs.Layout.{mark, width, part_width, place_of, record_length}
 
 pub width_small : (k : ℕ) → width k ≤ 4
 width_small zero = omega arith
@@ -87,3 +94,24 @@ part-inside layout k j = places-rise layout (suc k) j
 
 pub part-there : (layout k : ℕ) → k ≤ 8 → place_of layout k + part_width layout k ≤ place_of layout 9
 part-there layout k h = let e : 8 - k + suc k ≡ 9 = omega arith in rw e at (part-inside layout k (8 - k))
+
+-- the count byte is inside the record
+pub count_inside : (layout n : ℕ) → place_of layout 9 < record_length layout n
+unfolding record_length
+count_inside layout n = omega arith
+
+pub place-next : (layout k : ℕ) → place_of layout k + mark layout k * width k ≡ place_of layout (k + 1)
+unfolding place_of part_width
+place-next layout k = rw add-one
+
+-- one more place, after those that are there
+pub place-set : (layout k : ℕ) (starts : List ℕ) → k + 1 < length starts → ((j : ℕ) → j ≤ k → get_or starts j 0 ≡ place_of layout j)
+    → (j : ℕ) → j ≤ k + 1 → get_or (set starts (k + 1) (get_or starts k 0 + mark layout k * width k)) j 0 ≡ place_of layout j
+place-set layout k starts h f j g =
+    by-case (eqb j (k + 1))
+    (λ t.
+    let e : j ≡ k + 1 = eqb-true j (k + 1) t in
+    rw e (get_or-set_same starts (k + 1) (get_or starts k 0 + mark layout k * width k) 0 h ∙ ap (λ (n : ℕ). n + mark layout k * width k) (f k (omega arith)) ∙ place-next layout k))
+    (λ t.
+    let d = eqb-false j (k + 1) t in
+    get_or-set_other starts (k + 1) j (get_or starts k 0 + mark layout k * width k) 0 d ∙ f j (omega (arith, d)))

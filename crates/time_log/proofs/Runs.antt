@@ -2,30 +2,23 @@
 use mathlib.Core.Path.{◌≡◌, refl, sym, ap, ◌∙◌}
 use mathlib.Core.Bool.{Bool, true, false, ◌||◌}
 use mathlib.Core.List.{List}
-use Prim.Native.Nat.{ℕ, zero, suc, ◌+◌, ◌-◌, ◌≤◌, ◌<◌}
+use Prim.Native.Nat.{ℕ, zero, suc, ◌+◌, ◌-◌, ◌*◌, ◌≤◌, ◌<◌}
 use native.Mathlib.Omega.{arith}
-use borrow.Author.Tests.{le-leb, lt-leb}
+use borrow.Author.Tests.{lt-leb}
 use lib.Dec.{leb}
 use lib.ListN.{get_or}
+use Rattle.std.specs.List.{list_any, range_with_len}
 use Rattle.time_log.specs.Contents.{spaced}
 use Rattle.time_log.specs.Judging.{one_over}
 
-pub over_none : (logged step left : ℕ) (s : List ℕ) (p : ℕ) → left ≤ 0 → one_over logged (spaced step left s p) ≡ false
+-- byte by byte, by the numbers of a range
+pub over-each : (limit n from : ℕ) (s : List ℕ) (at : ℕ) → list_any (λ k. leb limit (get_or s (at + 5 * k) 0)) (range_with_len from n) ≡ one_over limit (spaced 5 n s (at + 5 * from))
 unfolding one_over spaced
-over_none logged step zero s p h = refl
-over_none logged step (suc n) s p h = absurd (omega (arith, h))
-
-pub over-here : (logged step left : ℕ) (s : List ℕ) (p : ℕ) → 0 < left → logged ≤ get_or s p 0 → one_over logged (spaced step left s p) ≡ true
-unfolding one_over spaced
-over-here logged step zero s p h l = absurd (omega (arith, h))
-over-here logged step (suc n) s p h l = rw (le-leb logged (get_or s p 0) l)
-
-pub over-next : (logged step left : ℕ) (s : List ℕ) (p : ℕ) → 0 < left → get_or s p 0 < logged
-    → one_over logged (spaced step (left - 1) s (p + step)) ≡ one_over logged (spaced step left s p)
-unfolding one_over spaced
-over-next logged step zero s p h l = absurd (omega (arith, h))
-over-next logged step (suc n) s p h l =
-    let e : suc n - 1 ≡ n = omega arith in rw (lt-leb logged (get_or s p 0) l, e)
+over-each limit zero from s at = refl
+over-each limit (suc n) from s at =
+    let next : at + 5 * (from + 1) ≡ at + 5 * from + 5 = omega arith in
+    ap (λ (b : Bool). leb limit (get_or s (at + 5 * from) 0) || b)
+    (over-each limit n (from + 1) s at ∙ ap (λ (p : ℕ). one_over limit (spaced 5 n s p)) next)
 
 -- four bytes at once
 abbrev pub four_over : ℕ → List ℕ → ℕ → Bool
@@ -44,16 +37,19 @@ apart logged n s p q r t u a b c d =
     regroup false false false true e = refl
     regroup false false false false e = refl
 
-over-four : (logged left : ℕ) (s : List ℕ) (p : ℕ) → 4 ≤ left → (four_over logged s p || one_over logged (spaced 5 (left - 4) s (p + 20))) ≡ one_over logged (spaced 5 left s p)
-over-four logged left s p h =
-    let e : left ≡ suc (suc (suc (suc (left - 4)))) = omega arith in
-    apart logged (left - 4) s p (p + 5) (p + 10) (p + 15) (p + 20) refl (omega arith) (omega arith) (omega arith) ∙ ap (λ (n : ℕ). one_over logged (spaced 5 n s p)) (sym e)
+over-four : (logged left less : ℕ) (s : List ℕ) (p q : ℕ) → less + 4 ≡ left → p + 20 ≡ q
+    → (four_over logged s p || one_over logged (spaced 5 less s q)) ≡ one_over logged (spaced 5 left s p)
+over-four logged left less s p q h e =
+    let f : left ≡ suc (suc (suc (suc less))) = omega arith in
+    apart logged less s p (p + 5) (p + 10) (p + 15) q refl (omega arith) (omega arith) (omega arith) ∙ ap (λ (n : ℕ). one_over logged (spaced 5 n s p)) (sym f)
 
 pub four-here : (logged left : ℕ) (s : List ℕ) (p : ℕ) → 4 ≤ left → four_over logged s p ≡ true → true ≡ one_over logged (spaced 5 left s p)
-four-here logged left s p h t = ap (λ (b : Bool). b || one_over logged (spaced 5 (left - 4) s (p + 20))) (sym t) ∙ over-four logged left s p h
+four-here logged left s p h t =
+    ap (λ (b : Bool). b || one_over logged (spaced 5 (left - 4) s (p + 20))) (sym t) ∙ over-four logged left (left - 4) s p (p + 20) (omega arith) refl
 
-pub four-next : (logged left : ℕ) (s : List ℕ) (p : ℕ) → 4 ≤ left → four_over logged s p ≡ false → one_over logged (spaced 5 (left - 4) s (p + 20)) ≡ one_over logged (spaced 5 left s p)
-four-next logged left s p h t = ap (λ (b : Bool). b || one_over logged (spaced 5 (left - 4) s (p + 20))) (sym t) ∙ over-four logged left s p h
+pub four-next : (logged left less : ℕ) (s : List ℕ) (p q : ℕ) → less + 4 ≡ left → p + 20 ≡ q → four_over logged s p ≡ false
+    → one_over logged (spaced 5 less s q) ≡ one_over logged (spaced 5 left s p)
+four-next logged left less s p q h e t = ap (λ (b : Bool). b || one_over logged (spaced 5 less s q)) (sym t) ∙ over-four logged left less s p q h e
 
 -- no byte is above 255
 pub over-high : (logged step n : ℕ) (s : List ℕ) (p : ℕ) → ((i : ℕ) → get_or s i 0 < 256) → 255 < logged → false ≡ one_over logged (spaced step n s p)

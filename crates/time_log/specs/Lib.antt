@@ -2,4 +2,5 @@
 pub mod Layout
 pub mod Contents
 pub mod Judging
+pub mod Refusing
 pub mod Within

@@ -1,11 +1,12 @@
 // Why a record is refused.
-ghost use Rattle.std.specs.Prelude.{◌≡◌, ◌+◌, ◌*◌, ◌≤◌, nat_abs, length};
-ghost use Rattle.wire.specs.Bytes.{signed_of};
-ghost use Rattle.time_log.specs.Contents.{spaced};
+ghost use Rattle.std.specs.Prelude.{◌≡◌, ◌+◌, ◌*◌, ◌≤◌, length, IfOk};
+ghost use Rattle.time_log.specs.Contents.{spaced, extent_of};
 ghost use Rattle.time_log.specs.Judging.{is_known_status, one_over, refusal_of_fields, record_refusal};
-ghost use Rattle.time_log.specs.Within.{Placed, refusal_by};
+ghost use Rattle.time_log.specs.Refusing.{number_of};
+ghost use Rattle.time_log.specs.Within.{refusal_by};
 
-use super::{Fields, Places, contents};
+use super::contents::part;
+use super::{Fields, Places, Refusal};
 
 fn known_status(status: u8) -> bool
     ensures { result ≡ is_known_status status }
@@ -13,34 +14,16 @@ fn known_status(status: u8) -> bool
     (status <= 8) | ((14 <= status) & (status <= 15))
 }
 
-// The absolute value of a field of four bytes that is a signed number.
-fn size_of(x: u32) -> u32
-    ensures { result ≡ nat_abs (signed_of 4 x) }
-{
-    if x < 2147483648 {
-        return x;
-    }
-    4294967295 - x + 1
-}
-
 // Whether one of n ordinals, five bytes apart, is not below a limit.
 fn last_over(s: &[u8], at: usize, n: usize, limit: u8) -> bool
     requires { at + 5 * n ≤ length s.now }
     ensures { result ≡ one_over limit (spaced 5 n s.now at) }
 {
-    let mut p = at;
-    let mut left = n;
-    while 0 < left {
-        if limit <= s[p] {
-            return true;
-        }
-        p += 5;
-        left -= 1;
-    }
-    false
+    (0..n).any(|k| limit <= s[at + 5 * k])
 }
 
 // The same with the count of log values as the limit; from 256 on every byte is below it. Testing four ordinals at once halves the time.
+// In this form 255 ordinals take 64 ns, and 110 as a `for` over `chunks_exact(20)` or over the number of fours.
 pub fn any_over(s: &[u8], at: usize, n: usize, logged: usize) -> bool
     requires { at + 5 * n ≤ length s.now }
     ensures { result ≡ one_over logged (spaced 5 n s.now at) }
@@ -61,52 +44,49 @@ pub fn any_over(s: &[u8], at: usize, n: usize, logged: usize) -> bool
     last_over(s, p, left, limit)
 }
 
-fn fields_refusal(time: u32, north: u32, east: u32, status: u8, over: bool) -> u32
-    ensures { result ≡ refusal_by time north east status over }
+// Judges what is judged of the fields, in their order. Of north and east it is their size.
+fn judge_parts(time: u32, north: u32, east: u32, status: u8, over: bool) -> Result<(), Refusal>
+    ensures { number_of result ≡ refusal_by time north east status over }
 {
     if 86399999 < time {
-        return 41;
+        return Err(Refusal::BadTime);
     }
     if 900000000 < north {
-        return 42;
+        return Err(Refusal::BadNorth);
     }
     if 1800000000 < east {
-        return 43;
+        return Err(Refusal::BadEast);
     }
     if !known_status(status) {
-        return 44;
+        return Err(Refusal::BadStatus);
     }
     if over {
-        return 45;
+        return Err(Refusal::OrdinalOver);
     }
-    0
+    Ok(())
 }
 
-pub fn judged(fields: Fields, over: bool) -> u32
-    ensures { result ≡ refusal_of_fields fields over }
+// Judges a record's fields, given whether an ordinal is not below the count of log values.
+pub fn judge_fields(fields: Fields, over: bool) -> Result<(), Refusal>
+    ensures { number_of result ≡ refusal_of_fields fields over }
 {
-    let north = size_of(wire::bits(fields.north));
-    let east = size_of(wire::bits(fields.east));
-    fields_refusal(fields.time, north, east, fields.status, over)
+    let north = fields.north.unsigned_abs();
+    let east = fields.east.unsigned_abs();
+    judge_parts(fields.time, north, east, fields.status, over)
 }
 
-// Judges a record of a log. Of its fields only those are read that are judged.
-pub fn refusal(bytes: &[u8], layout: u32, places: Places, logged: usize) -> u32
-    requires { (layout ≤ 511) × Placed layout places }
-    ensures { result ≡ record_refusal layout logged bytes.now }
+// Judges the record of a log that the bytes start with, and gives its length. Of its fields only those are read that are judged.
+pub fn judge_record(bytes: &[u8], places: &Places, logged: usize) -> Result<usize, Refusal>
+    requires { places.now.layout ≤ 511 }
+    ensures number { number_of result ≡ record_refusal places.now.layout logged bytes.now }
+    ensures extent { IfOk result (λ n. n ≡ extent_of places.now.layout bytes.now) }
 {
-    let count = places.count;
-    if bytes.len() <= count {
-        return 40;
-    }
-    let n = bytes[count] as usize;
-    if bytes.len() < count + 1 + 5 * n {
-        return 40;
-    }
+    let n = places.values_in(bytes)?;
     let time = wire::number(bytes, 0, 4) as u32;
-    let north = size_of(contents::part(bytes, layout, 0, 6, 4));
-    let east = size_of(contents::part(bytes, layout, 1, places.east, 4));
-    let status = contents::part(bytes, layout, 3, places.status, 1) as u8;
-    let over = any_over(bytes, count + 1, n, logged);
-    fields_refusal(time, north, east, status, over)
+    let north = wire::signed(part(bytes, places, 0)).unsigned_abs();
+    let east = wire::signed(part(bytes, places, 1)).unsigned_abs();
+    let status = part(bytes, places, 3) as u8;
+    let over = any_over(bytes, places.count() + 1, n, logged);
+    judge_parts(time, north, east, status, over)?;
+    Ok(places.length_with(n))
 }

@@ -28,10 +28,6 @@ module _ (p : List ℕ) (at : ℕ) where
   unfolding element_of field_at layout
   element-view d t n q m ht hd hn hq hm = cc
 
-  pub entry-view : (d : Span) (i e : ℕ) → d ≡ text_after p (at + 3 + 2 + 1) → e ≡ number_in 2 p (d.to + 2 + 2 + 2 + 2 * i) → e ≡ entry_of p at i
-  unfolding entry_of field_at layout
-  entry-view d i e hd he = cc
-
   pub entries-view : (d : Span) → d ≡ text_after p (at + 3 + 2 + 1) → (i : ℕ) → entry_of p at i ≡ number_in 2 p (d.to + 2 + 2 + 2 + 2 * i)
   unfolding entry_of field_at layout
   entries-view d hd i = rw hd

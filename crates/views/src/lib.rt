@@ -36,7 +36,7 @@ pub fn device(p: &[u8], at: u16) -> Device
     let designator = text(p, id_at + 2);
     let version = text(p, designator.to);
     let name_at = version.to;
-    let name = wire::read_u64(p, name_at);
+    let name = wire::read::<u64>(p, name_at);
     let serial = text(p, name_at + 8);
     let structure_at = serial.to;
     let localization_at = structure_at + 7;
@@ -69,10 +69,10 @@ pub fn device_element(p: &[u8], at: u16) -> DeviceElement
     let element_type = wire::read_u8(p, type_at);
     let designator = text(p, type_at + 1);
     let number_at = designator.to;
-    let number = wire::read_u16(p, number_at);
+    let number = wire::read::<u16>(p, number_at);
     let parent_at = number_at + 2;
-    let parent = wire::read_u16(p, parent_at);
-    let entries = wire::read_u16(p, parent_at + 2);
+    let parent = wire::read::<u16>(p, parent_at);
+    let entries = wire::read::<u16>(p, parent_at + 2);
     DeviceElement {
         element_type,
         designator,
@@ -80,17 +80,6 @@ pub fn device_element(p: &[u8], at: u16) -> DeviceElement
         parent,
         entries,
     }
-}
-
-// The ID that entry i of a device element's list names, counted from 0.
-pub fn entry(p: &[u8], at: u16, i: u16) -> u16
-    ensures { result ≡ entry_of p.now at i }
-{
-    let id_at = at as usize + 3;
-    let designator = text(p, id_at + 2 + 1);
-    let number_at = designator.to;
-    let count_at = number_at + 2 + 2;
-    wire::read_u16(p, count_at + 2 + 2 * i as usize)
 }
 
 // The place where the entries of a device element's list begin.
@@ -104,18 +93,25 @@ pub fn entries_from(p: &[u8], at: u16) -> usize
     count_at + 2
 }
 
+// The ID that entry i of a device element's list names, counted from 0.
+pub fn entry(p: &[u8], at: u16, i: u16) -> u16
+    ensures { result ≡ entry_of p.now at i }
+{
+    wire::read::<u16>(p, entries_from(p, at) + 2 * i as usize)
+}
+
 pub fn process_data(p: &[u8], at: u16) -> ProcessData
     ensures { result ≡ process_data_of p.now at }
 {
     let id_at = at as usize + 3;
     let ddi_at = id_at + 2;
-    let ddi = wire::read_u16(p, ddi_at);
+    let ddi = wire::read::<u16>(p, ddi_at);
     let properties_at = ddi_at + 2;
     let properties = wire::read_u8(p, properties_at);
     let triggers_at = properties_at + 1;
     let triggers = wire::read_u8(p, triggers_at);
     let designator = text(p, triggers_at + 1);
-    let presentation = wire::read_u16(p, designator.to);
+    let presentation = wire::read::<u16>(p, designator.to);
     ProcessData {
         ddi,
         properties,
@@ -130,11 +126,11 @@ pub fn property(p: &[u8], at: u16) -> Property
 {
     let id_at = at as usize + 3;
     let ddi_at = id_at + 2;
-    let ddi = wire::read_u16(p, ddi_at);
+    let ddi = wire::read::<u16>(p, ddi_at);
     let value_at = ddi_at + 2;
-    let value = wire::read_i32(p, value_at);
+    let value = wire::read::<i32>(p, value_at);
     let designator = text(p, value_at + 4);
-    let presentation = wire::read_u16(p, designator.to);
+    let presentation = wire::read::<u16>(p, designator.to);
     Property {
         ddi,
         value,
@@ -148,9 +144,9 @@ pub fn value_presentation(p: &[u8], at: u16) -> ValuePresentation
 {
     let id_at = at as usize + 3;
     let offset_at = id_at + 2;
-    let offset = wire::read_i32(p, offset_at);
+    let offset = wire::read::<i32>(p, offset_at);
     let scale_at = offset_at + 4;
-    let scale = wire::read_u32(p, scale_at);
+    let scale = wire::read::<u32>(p, scale_at);
     let decimals_at = scale_at + 4;
     let decimals = wire::read_u8(p, decimals_at);
     let unit = text(p, decimals_at + 1);

@@ -1,6 +1,6 @@
 -- Laws about writing bytes over others. Assumes nothing.
 use mathlib.Core.Path.{◌≡◌, refl, sym, ap, ◌∙◌}
-use mathlib.Core.List.{List, [], ◌∷◌, ◌++◌}
+use mathlib.Core.List.{List, [], ◌∷◌, ◌++◌, append-nil, append_assoc}
 use mathlib.Core.Bool.{Bool, true, false}
 use Prim.Native.Nat.{ℕ, suc, ◌+◌, ◌-◌, ◌≤◌, ◌<◌}
 use native.Mathlib.Omega.{arith}
@@ -8,8 +8,11 @@ use native.Mathlib.Nat.{add-zero}
 use native.Mathlib.Numerals.{add-one}
 use borrow.Author.Tests.{le-leb, lt-leb, leb-true, leb-false}
 use lib.Dec.{leb}
-use lib.ListN.{length, get_or, set, drop}
-use lib.Seq.{sets, drop-cons}
+use lib.ListN.{length, get_or, set, drop, drop_of_length-le}
+use lib.Seq.{sets, sets-eq, drop-cons}
+use borrow.Rule.Slice.PartMut.{put_mid}
+use Rattle.std.proofs.lemmas.Slice.{put_mid-paste}
+use Rattle.std.proofs.lemmas.List.Edits.{paste_all}
 use Rattle.wire.specs.Bytes.{laid}
 
 pub laid-fits : (d : List ℕ) (at : ℕ) (bs : List ℕ) → leb (at + length bs) (length d) ≡ true → laid d at bs ≡ sets d at bs
@@ -28,7 +31,16 @@ sets_behind (x ∷ xs) ys d i = ap (λ (n : ℕ). sets (sets (set d i x) (suc i)
     further : (i n : ℕ) → i + suc n ≡ suc i + n
     further i n = omega arith
 
--- one byte of those that are still to be laid
+-- bytes written over a part of others are laid there
+pub part-laid : (d bs : List ℕ) (at k : ℕ) → at + length bs ≤ length d → length bs ≡ k → put_mid at k d bs ≡ sets d at bs
+part-laid d bs at k room e =
+    put_mid-paste at k d bs bs (length bs) refl e refl ∙ paste_all d at bs (length bs) refl ∙ sym (rw append_assoc at (sets-eq bs d at room))
+
+-- bytes written over as many others
+pub whole-laid : (d bs : List ℕ) → length bs ≡ length d → sets d 0 bs ≡ bs
+whole-laid d bs e = sets-eq bs d 0 (omega arith) ∙ ap (λ (r : List ℕ). [] ++ bs ++ r) (drop_of_length-le d (omega arith)) ∙ append-nil bs
+
+-- one more byte is laid
 pub lay_step : (d s : List ℕ) (at i : ℕ) → i < length s → sets d (at + i) (drop i s) ≡ sets (set d (at + i) (get_or s i 0)) (at + (i + 1)) (drop (i + 1) s)
 lay_step d s at i h =
     let f : at + (i + 1) ≡ suc (at + i) = omega arith in

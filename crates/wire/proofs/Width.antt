@@ -1,11 +1,12 @@
 -- The laws of numbers as bytes, at every width. Assumes nothing.
 use mathlib.Core.Path.{◌≡◌, refl, sym, ap, ◌∙◌}
-use mathlib.Core.List.{List, append_assoc}
+use mathlib.Core.List.{List, [], ◌∷◌, ◌++◌, append_assoc}
 use Prim.Native.Nat.{ℕ, zero, suc, ◌+◌, ◌*◌, ◌-◌, ◌/◌, ◌%◌, ◌^◌, ◌<◌, ◌≤◌, zero-le}
-use native.Mathlib.Nat.{pow-suc, mod-one, zero-lt-suc, pow-le-pow_right}
+use native.Mathlib.Nat.{add_comm, pow-suc, mod-one, zero-lt-suc, pow-le-pow_right}
 use native.Mathlib.Omega.{arith}
+use native.Mathlib.Numerals.{add-one}
 use lib.Arith.{mod-mul}
-use lib.ListN.{length, get_or, set, take, drop, length-drop, drop_of_length-le}
+use lib.ListN.{length, get_or, set, take, drop, length-append, length-drop, drop_of_length-le}
 use lib.Seq.{drop-cons, sets, sets-eq, drop_at, take_at, length-take-le, take-nil, take_all}
 use Rattle.wire.specs.Bytes.{le_of, bytes_of, number_in}
 
@@ -43,20 +44,26 @@ written d at w x h =
     rw (sets-eq (bytes_of w x) d at (rw n h), append_assoc, drop_at (take at d) _ at m, take_at (bytes_of w x) _ w n)
 
 -- one byte of the bytes that are still to be written
-pub step : (d : List ℕ) (at w i y : ℕ) → i < w → sets d (at + i) (bytes_of (w - i) y) ≡ sets (set d (at + i) (y % 256)) (at + (i + 1)) (bytes_of (w - (i + 1)) (y / 256))
+pub step : (d : List ℕ) (w i y : ℕ) → i < w → sets d i (bytes_of (w - i) y) ≡ sets (set d i (y % 256)) (i + 1) (bytes_of (w - (i + 1)) (y / 256))
 unfolding bytes_of
-step d at w i y h =
+step d w i y h =
     let e : w - i ≡ suc (w - (i + 1)) = omega arith in
-    let f : at + (i + 1) ≡ suc (at + i) = omega arith in
-    rw (e, f)
+    rw (e, add-one)
 
--- a turn of the reading loop
-pub read_step : (s : List ℕ) (at w i x : ℕ) → 0 < i → i ≤ w → at + w ≤ length s → x ≡ le_of (take (w - i) (drop (at + i) s))
-    → x * 256 + get_or s (at + (i - 1)) 0 ≡ le_of (take (w - (i - 1)) (drop (at + (i - 1)) s))
-read_step s at w i x p q r e =
-    let f : w - (i - 1) ≡ suc (w - i) = omega arith in
-    let g : at + i ≡ suc (at + (i - 1)) = omega arith in
-    rw (f, more s (at + (i - 1)) (w - i) (omega arith), ← g, ← e) (omega arith)
+-- a turn of the reading loop, from the last byte down: those before it are still to be passed
+pub turn : (bytes left now passed : List ℕ) (b x : ℕ) → left ++ passed ≡ bytes → left ≡ now ++ b ∷ [] → x ≡ le_of passed → (now ++ (b ∷ passed) ≡ bytes) × (x * 256 + b ≡ le_of (b ∷ passed))
+unfolding le_of
+turn bytes left now passed b x all last is = (rw (last, append_assoc) at all, rw (← is) (add_comm (x * 256) b))
+
+pub shorter : (bytes left now passed : List ℕ) (b : ℕ) → left ++ passed ≡ bytes → left ≡ now ++ b ∷ [] → length passed < length bytes
+shorter bytes left now passed b all last = rw (← all, last) (simp length-append (omega arith))
+
+pub all-passed : (bytes left passed : List ℕ) → left ++ passed ≡ bytes → length left ≡ 0 → passed ≡ bytes
+all-passed bytes [] passed all none = all
+all-passed bytes (b ∷ left) passed all none = absurd (omega arith)
+
+pub part-long : (w at : ℕ) (s : List ℕ) → at + w ≤ length s → length (take w (drop at s)) ≡ w
+part-long w at s h = length-take-le w (drop at s) (omega (arith, length-drop at s))
 
 -- bytes past the end add nothing
 pub past_end : (w : ℕ) (s : List ℕ) (at : ℕ) → length s ≤ at → number_in w s at ≡ 0

@@ -2,3 +2,4 @@
 pub mod Bytes
 pub mod Parts
 pub mod ReadBack
+pub mod Signed

@@ -1,12 +1,143 @@
 // Little-endian numbers in bytes, parts of bytes, and copying. Every public function takes any slice, place and number, except `number`,
-// `word`, `pair` and `put`, whose callers know that the bytes are within the slice.
+// `within` and `put`, whose callers know that the bytes are within the slice.
 #![tactic(auto)]
 
-ghost use Rattle.std.specs.Prelude.{◌≡◌, ◌+◌, ◌-◌, ◌≤◌, ◌<◌, ◌^◌, min, leb, length, get_or, take, drop};
+ghost use Rattle.std.specs.Prelude.{◌≡◌, refl, ℕ, ◌+◌, ◌-◌, ◌≤◌, ◌<◌, ◌^◌, min, leb, length, get_or, take, drop};
+ghost use Rattle.std.specs.Int.Signed.{mag};
+ghost use Rattle.std.proofs.Common.{rules};
+ghost use Rattle.wire.specs.Signed.{signed_reads_back};
 ghost use Rattle.std.proofs.lemmas.List.Edits.{sets};
 ghost use Rattle.wire.specs.Bytes.{bytes_of, number_in, signed_of, bits_of, laid};
 ghost use Rattle.wire.specs.Parts.{place_in};
 ghost use Rattle.wire.specs.ReadBack.{Unsigned, Signed32};
+
+// A type of numbers that stand on the wire with their lowest byte first, each value as a number in so many bytes. There is no impl for u8:
+// `read_u8` says more, since it names the byte itself. The impls for u16, u32 and u64 differ in the type and the width alone, and are
+// written out: a default cannot say that a value is its own number, and no macro of the repository may write impls.
+pub trait LittleEndian: Copy {
+    // How many bytes a value takes.
+    ghost WIDTH: { ℕ };
+
+    // The value that a number in these bytes represents.
+    ghost of_number: { ℕ → Self };
+
+    // The number whose bytes represent a value.
+    ghost number_of: { Self → ℕ };
+
+    // What holds of each value of the type: a law ranges over every number.
+    ghost in_range: { Self → Type 0 };
+
+    const WIDTH: usize;
+
+    fn from_number(number: u64) -> Self
+        requires { number < 256 ^ WIDTH }
+        ensures { result ≡ of_number number };
+
+    fn to_number(self) -> u64
+        ensures { result ≡ number_of self };
+
+    // The number fits 64 bits.
+    ghost fits_64: { WIDTH ≤ 8 };
+
+    // A value that is written reads back the same.
+    ghost reads_back: { (x : Self) → in_range x → (number_of x < 256 ^ WIDTH) × (of_number (number_of x) ≡ x) };
+}
+
+impl LittleEndian for u16 {
+    ghost WIDTH = { 2 };
+
+    ghost of_number = { λ n. n };
+
+    ghost number_of = { λ n. n };
+
+    ghost in_range = { λ n. n < 256 ^ 2 };
+
+    ghost fits_64 = { Prim.search rules };
+
+    ghost reads_back = { λ _ h. (h, refl) };
+
+    const WIDTH: usize = 2;
+
+    fn from_number(number: u64) -> u16 {
+        number as u16
+    }
+
+    fn to_number(self) -> u64 {
+        self as u64
+    }
+}
+
+impl LittleEndian for u32 {
+    ghost WIDTH = { 4 };
+
+    ghost of_number = { λ n. n };
+
+    ghost number_of = { λ n. n };
+
+    ghost in_range = { λ n. n < 256 ^ 4 };
+
+    ghost fits_64 = { Prim.search rules };
+
+    ghost reads_back = { λ _ h. (h, refl) };
+
+    const WIDTH: usize = 4;
+
+    fn from_number(number: u64) -> u32 {
+        number as u32
+    }
+
+    fn to_number(self) -> u64 {
+        self as u64
+    }
+}
+
+impl LittleEndian for u64 {
+    ghost WIDTH = { 8 };
+
+    ghost of_number = { λ n. n };
+
+    ghost number_of = { λ n. n };
+
+    ghost in_range = { λ n. n < 256 ^ 8 };
+
+    ghost fits_64 = { Prim.search rules };
+
+    ghost reads_back = { λ _ h. (h, refl) };
+
+    const WIDTH: usize = 8;
+
+    fn from_number(number: u64) -> u64 {
+        number
+    }
+
+    fn to_number(self) -> u64 {
+        self
+    }
+}
+
+impl LittleEndian for i32 {
+    ghost WIDTH = { 4 };
+
+    ghost of_number = { signed_of 4 };
+
+    ghost number_of = { bits_of 4 };
+
+    ghost in_range = { λ z. mag z < 2 ^ 31 };
+
+    ghost fits_64 = { Prim.search rules };
+
+    ghost reads_back = { signed_reads_back };
+
+    const WIDTH: usize = 4;
+
+    fn from_number(number: u64) -> i32 {
+        signed(number as u32)
+    }
+
+    fn to_number(self) -> u64 {
+        bits(self) as u64
+    }
+}
 
 // The number in w bytes that are all within the slice, computed from the highest byte down.
 pub fn number(s: &[u8], at: usize, w: usize) -> u64
@@ -14,10 +145,8 @@ pub fn number(s: &[u8], at: usize, w: usize) -> u64
     ensures { (result ≡ number_in w s.now at) × (result < 256 ^ w) }
 {
     let mut x = 0u64;
-    let mut i = w;
-    while 0 < i {
-        i -= 1;
-        x = x * 256 + (s[at + i] as u64);
+    for b in s[at..at + w].iter().rev() {
+        x = x * 256 + *b as u64;
     }
     x
 }
@@ -40,69 +169,36 @@ fn number_at(s: &[u8], at: usize, w: usize) -> u64
 pub fn read_u8(s: &[u8], at: usize) -> u8
     ensures { result ≡ get_or s.now at 0 }
 {
-    if at < s.len() {
-        return s[at];
-    }
-    0
+    s.get(at).copied().unwrap_or(0)
 }
 
-pub fn read_u16(s: &[u8], at: usize) -> u16
-    ensures { result ≡ number_in 2 s.now at }
+// The number at a place; bytes past the end are left out.
+pub fn read<T: LittleEndian>(s: &[u8], at: usize) -> T
+    ensures { result ≡ T.of_number (number_in T.WIDTH s.now at) }
 {
-    number_at(s, at, 2) as u16
+    T::from_number(number_at(s, at, T::WIDTH))
 }
 
-pub fn read_u32(s: &[u8], at: usize) -> u32
-    ensures { result ≡ number_in 4 s.now at }
+// The same if the caller knows that all the bytes are within the slice, without a test.
+pub fn within<T: LittleEndian>(s: &[u8], at: usize) -> T
+    requires { at + T.WIDTH ≤ length s.now }
+    ensures { result ≡ T.of_number (number_in T.WIDTH s.now at) }
 {
-    number_at(s, at, 4) as u32
+    T::from_number(number(s, at, T::WIDTH))
 }
 
-pub fn read_u64(s: &[u8], at: usize) -> u64
-    ensures { result ≡ number_in 8 s.now at }
-{
-    number_at(s, at, 8)
-}
-
-// The same if the caller knows that all 8 bytes are within the slice, without a test.
-pub fn word(s: &[u8], at: usize) -> u64
-    requires { at + 8 ≤ length s.now }
-    ensures { result ≡ number_in 8 s.now at }
-{
-    number(s, at, 8)
-}
-
-// The same for two bytes.
-pub fn pair(s: &[u8], at: usize) -> u16
-    requires { at + 2 ≤ length s.now }
-    ensures { result ≡ number_in 2 s.now at }
-{
-    number(s, at, 2) as u16
-}
-
-// Two's complement, without a cast that loses bits.
+// The signed number that has these 32 bits in two's complement.
 pub fn signed(x: u32) -> i32
     ensures { result ≡ signed_of 4 x }
 {
-    if x < 2147483648 {
-        return x as i32;
-    }
-    -1 - ((4294967295 - x) as i32)
+    x.cast_signed()
 }
 
+// The 32 bits of a signed number, likewise.
 pub fn bits(x: i32) -> u32
     ensures { result ≡ bits_of 4 x }
 {
-    if x < 0 {
-        return 4294967295 - ((-1 - x) as u32);
-    }
-    x as u32
-}
-
-pub fn read_i32(s: &[u8], at: usize) -> i32
-    ensures { result ≡ signed_of 4 (number_in 4 s.now at) }
-{
-    signed(read_u32(s, at))
+    x.cast_unsigned()
 }
 
 // Writes the w lowest bytes of x, if it is known that there is room for them.
@@ -110,12 +206,10 @@ pub fn put(d: &mut [u8], at: usize, w: usize, x: u64)
     requires { at + w ≤ length d.old }
     ensures { d.new ≡ sets d.old at (bytes_of w x) }
 {
-    let mut y = x;
-    let mut i = 0usize;
-    while i < w {
-        d[at + i] = (y % 256) as u8;
-        y = y / 256;
-        i += 1;
+    let mut rest = x;
+    for b in &mut d[at..at + w] {
+        *b = (rest % 256) as u8;
+        rest /= 256;
     }
 }
 
@@ -123,10 +217,7 @@ pub fn put(d: &mut [u8], at: usize, w: usize, x: u64)
 fn has_room(len: usize, at: usize, n: usize) -> bool
     ensures { result ≡ leb (at + n) len }
 {
-    if len < at {
-        return false;
-    }
-    n <= len - at
+    at <= len && n <= len - at
 }
 
 // Writes all w bytes or none, and returns whether they are written.
@@ -140,38 +231,20 @@ fn put_at(d: &mut [u8], at: usize, w: usize, x: u64) -> bool
     false
 }
 
-pub fn write_u16(d: &mut [u8], at: usize, x: u16) -> bool
-    ensures { (result ≡ leb (at + 2) (length d.old)) × (d.new ≡ laid d.old at (bytes_of 2 x)) }
+// Writes all bytes of a number at a place or none, and returns whether they are written.
+pub fn write<T: LittleEndian>(d: &mut [u8], at: usize, x: T) -> bool
+    ensures { (result ≡ leb (at + T.WIDTH) (length d.old)) × (d.new ≡ laid d.old at (bytes_of T.WIDTH (T.number_of x))) }
 {
-    put_at(d, at, 2, x as u64)
+    put_at(d, at, T::WIDTH, x.to_number())
 }
 
-pub fn write_u32(d: &mut [u8], at: usize, x: u32) -> bool
-    ensures { (result ≡ leb (at + 4) (length d.old)) × (d.new ≡ laid d.old at (bytes_of 4 x)) }
-{
-    put_at(d, at, 4, x as u64)
-}
-
-pub fn write_u64(d: &mut [u8], at: usize, x: u64) -> bool
-    ensures { (result ≡ leb (at + 8) (length d.old)) × (d.new ≡ laid d.old at (bytes_of 8 x)) }
-{
-    put_at(d, at, 8, x)
-}
-
-pub fn write_i32(d: &mut [u8], at: usize, x: i32) -> bool
-    ensures { (result ≡ leb (at + 4) (length d.old)) × (d.new ≡ laid d.old at (bytes_of 4 (bits_of 4 x))) }
-{
-    write_u32(d, at, bits(x))
-}
-
+// Copies a slice into another that has room for it. A loop: `copy_from_slice` would make the library for C need memmove, too.
 fn copy_in(from: &[u8], to: &mut [u8], at: usize)
     requires { at + length from.now ≤ length to.old }
     ensures { to.new ≡ sets to.old at from.now }
 {
-    let mut i = 0usize;
-    while i < from.len() {
-        to[at + i] = from[i];
-        i += 1;
+    for (i, byte) in from.iter().enumerate() {
+        to[at + i] = *byte;
     }
 }
 
@@ -192,16 +265,8 @@ pub fn part<'a>(s: &'a [u8], from: usize, to: usize) -> &'a [u8]
     ensures { (result.now ≡ take (to - from) (drop from s.now)) × (result.ref_ptr ≡ place_in s.entry (min from (length s.now))) }
 {
     let end = s.len();
-    if end < from {
-        return &s[end..];
-    }
-    if end < to {
-        return &s[from..];
-    }
-    if to < from {
-        return &s[from..from];
-    }
-    &s[from..to]
+    let start = from.min(end);
+    &s[start..to.clamp(start, end)]
 }
 
 // What is written reads back the same. The function does nothing: its contract is the claim, so that the report names it.

@@ -1,12 +1,14 @@
 -- A table filled from a pool: a list of the records' starts gives the table after reading. Assumes nothing.
 use mathlib.Core.Path.{◌≡◌, refl, sym, ap, subst, ◌∙◌}
-use mathlib.Core.List.{List, [], ◌∷◌, map}
+use mathlib.Core.List.{List, [], ◌∷◌, ◌++◌, map}
+use Rattle.std.specs.Prelude.{Result, Ok, Err}
 use Prim.Native.Nat.{ℕ, zero, suc, ◌+◌, ◌≤◌, ◌<◌}
 use native.Mathlib.Decide.{ℕ_discrete, dec_lt}
 use native.Mathlib.Omega.{arith}
 use borrow.Author.Tests.{eq-eqb, ne_eqb}
 use lib.ListN.{length, get_or, set, take, drop, length-set, length-take}
 use lib.Seq.{sets, get_or-take, length-take-le, take-take, take-nil}
+use Rattle.std.proofs.lemmas.List.{set-append_left}
 use Rattle.wire.specs.Bytes.{number_in}
 use Rattle.records.specs.Layout.{layout, mark_code, mark_of, three}
 use Rattle.records.specs.Places.{field_at, id_of, parent_id_of}
@@ -15,9 +17,8 @@ use Rattle.records.proofs.Range.{parent-within}
 use Rattle.pool.specs.Answer.{Answer, answer, answer_of, records_in}
 use Rattle.pool.specs.Reading.{Entry, entry_at, Scan, scan_of, entries_in, read_of}
 use Rattle.pool.specs.Walk.{entries_of, Divided, Listed}
-use Rattle.pool.specs.declared.Outcome.{Outcome}
-use Rattle.pool.specs.declared.Outcome.TheVariants.{Records, Empty, TooLong, NoMark, Cut, LengthOver, TooMany, TableShort}
-use Rattle.pool.proofs.Judged.{read-counted}
+use Rattle.pool.specs.declared.Refusal.{Refusal}
+use Rattle.pool.proofs.Judged.{refused-number, read-counted}
 use Rattle.pool.proofs.Starts.{entries-long, entry-at, starts-stretch, starts-marked}
 use Rattle.working_table.specs.declared.Record.{Record}
 use Rattle.working_table.specs.Table.{record_of, records_after}
@@ -39,6 +40,14 @@ pub gathered-length : (p starts : List ℕ) (n : ℕ) (table : List Record) → 
 unfolding gathered
 gathered-length p starts zero table = refl
 gathered-length p starts (suc n) table = length-set (gathered p starts n table) n (row_in p starts n) ∙ gathered-length p starts n table
+
+-- the entries behind those that are filled stay
+pub gathered-front : (p starts : List ℕ) (n : ℕ) (front rest : List Record) → n ≤ length front → gathered p starts n (front ++ rest) ≡ gathered p starts n front ++ rest
+unfolding gathered
+gathered-front p starts zero front rest h = refl
+gathered-front p starts (suc n) front rest h =
+    ap (λ (t : List Record). set t n (row_in p starts n)) (gathered-front p starts n front rest (omega arith))
+    ∙ set-append_left (gathered p starts n front) rest n (row_in p starts n) (omega (arith, gathered-length p starts n front))
 
 none : Entry
 none = entry_at [] 0 0
@@ -181,28 +190,17 @@ module _ (a : ℕ) (s starts : List ℕ) where
       ∙ ap (set (gathered (take a s) starts n table) n) (row_is s starts n ∙ sym (row_is (take a s) starts n ∙ ap record_of (entry-part a s (get_or starts n 0) (get_or starts (suc n) 0) (in-part n (stands n (omega arith))) (parent-in-part n (stands n (omega arith))))))
 
 -- what reading answers says how many entries are filled
-pub outcome-counts : (r : Outcome) → (answer_of r).number ≡ 0 → records_in r ≡ (answer_of r).value
-outcome-counts (Records n) z = refl
-outcome-counts Empty z = omega arith
-outcome-counts TooLong z = omega arith
-outcome-counts (NoMark at) z = omega arith
-outcome-counts (Cut at) z = omega arith
-outcome-counts (LengthOver at) z = omega arith
-outcome-counts TooMany z = omega arith
-outcome-counts (TableShort n) z = omega arith
+pub outcome-counts : (r : Result ℕ Refusal) → (answer_of r).number ≡ 0 → records_in r ≡ (answer_of r).value
+outcome-counts (Ok n) z = refl
+outcome-counts (Err r) z = absurd (refused-number r z)
 
-pub outcome-none : (r : Outcome) → ((answer_of r).number ≡ 0 → ⊥) → records_in r ≡ 0
-outcome-none (Records n) z = absurd (z refl)
-outcome-none Empty z = refl
-outcome-none TooLong z = refl
-outcome-none (NoMark at) z = refl
-outcome-none (Cut at) z = refl
-outcome-none (LengthOver at) z = refl
-outcome-none TooMany z = refl
-outcome-none (TableShort n) z = refl
+pub outcome-none : (r : Result ℕ Refusal) → ((answer_of r).number ≡ 0 → ⊥) → records_in r ≡ 0
+outcome-none (Ok n) z = absurd (z refl)
+outcome-none (Err r) z = refl
 
-pub read-gathers : (p starts : List ℕ) (r : Outcome) (table : List Record) → answer_of r ≡ read_of p (length table) → Listed p (length table) starts → Gathers p starts (records_in r) table
-read-gathers p starts r table e listed =
-    listed-gathers p starts (records_in r) table listed
-    (λ z. outcome-counts r (ap (λ (a : Answer). a.number) e ∙ z) ∙ ap (λ (a : Answer). a.value) e)
-    (λ z. outcome-none r (λ y. z (sym (ap (λ (a : Answer). a.number) e) ∙ y)))
+pub read-gathers : (p starts : List ℕ) (n : ℕ) (r : Result ℕ Refusal) (table : List Record) → answer_of r ≡ read_of p (length table) → n ≡ records_in r → Listed p (length table) starts
+    → Gathers p starts n table
+read-gathers p starts n r table e count listed =
+    listed-gathers p starts n table listed
+    (λ z. count ∙ outcome-counts r (ap (λ (a : Answer). a.number) e ∙ z) ∙ ap (λ (a : Answer). a.value) e)
+    (λ z. count ∙ outcome-none r (λ y. z (sym (ap (λ (a : Answer). a.number) e) ∙ y)))

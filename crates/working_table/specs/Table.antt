@@ -1,9 +1,7 @@
 -- The working table as a list of records: document 01, "Reading a pool". Definitions only.
-use Rattle.std.specs.Prelude.{ℕ, ◌≡◌, cond, List, map, eqb, length}
+use Rattle.std.specs.Prelude.{ℕ, cond, List, map, eqb, length}
 use Rattle.std.proofs.lemmas.List.Edits.{sets}
-use Rattle.pool.specs.Answer.{answer_of}
 use Rattle.pool.specs.Reading.{Entry, scan_of, entries_in, read_of}
-use Rattle.pool.specs.declared.Outcome.{Outcome}
 use Rattle.working_table.specs.declared.Record.{Record}
 
 -- an entry of a pool's division as an element of the table: start, length, kind, ID and parent ID
@@ -18,7 +16,3 @@ blank = record { start = 0; length = 0; kind = 0; id = 0; parent = 0 }
 -- is unchanged. It has room for as many records as it has entries
 unfoldable pub records_after : List ℕ → List Record → List Record
 records_after p table = cond (eqb (read_of p (length table)).number 0) (sets table 0 (map record_of (entries_in (scan_of p)))) table
-
--- what reading answers, and the table before and after it
-abbrev pub Reads : List ℕ → Outcome → List Record → List Record → Type 0
-Reads p r before after = (answer_of r ≡ read_of p (length before)) × (after ≡ records_after p before)

@@ -2,14 +2,19 @@
 // leaves the table as it was. Then the table is filled from the pool, by the starts of the records that reading has listed.
 #![tactic(auto)]
 
-ghost use Rattle.std.specs.Prelude.{◌≡◌, ◌≤◌, length};
-ghost use Rattle.pool.specs.Answer.{answer_of};
+ghost use Rattle.std.specs.Prelude.{◌≡◌, length};
+ghost use Rattle.pool.specs.Answer.{answer_of, records_in};
 ghost use Rattle.pool.specs.Reading.{read_of};
-ghost use Rattle.working_table.specs.Table.{records_after, Reads};
+ghost use Rattle.pool.specs.Walk.{Reaches, Listed};
+ghost use Rattle.working_table.specs.Table.{records_after};
 ghost use Rattle.working_table.specs.Rows.{row_in, gathered, Stands, Fillable};
 
-use pool::Outcome;
+use pool::Refusal;
 use records::view;
+
+mod by_list;
+
+pub use by_list::{Counted, fill};
 
 // An entry of the table. The kind is its number: 1 DVC, 2 DET, 3 DPD, 4 DPT, 5 DVP. Only a DET has a parent ID; the others have 65535.
 #[repr(C)]
@@ -33,60 +38,41 @@ fn row_at(p: &[u8], starts: &[u16], i: usize) -> Record
         start,
         length: end - start,
         kind: view::kind_number(p, start),
-        id: wire::pair(p, start as usize + 3),
+        id: wire::within::<u16>(p, start as usize + 3),
         parent: view::parent_id(p, start),
     }
 }
 
 // Fills the first `count` entries from the pool, by a list of its records' starts. Later entries are left as they were. It requires that
-// the table has that many entries and that each record can be read; the promise of the function that made the list shows this.
+// the table has that many entries and that each record can be read; the promise of the function that made the list shows this. The count
+// stands beside the list, and no part of the list alone, since docs/ name this function with both.
 pub fn gather(p: &[u8], starts: &[u16], count: usize, table: &mut [Record])
     requires { Fillable p.now starts.now count table.old }
     ensures { table.new ≡ gathered p.now starts.now count table.old }
 {
-    let mut i = 0usize;
-    while i < count {
-        table[i] = row_at(p, starts, i);
-        i += 1;
+    let filled = &mut table[..count];
+    for (i, row) in filled.iter_mut().enumerate() {
+        *row = row_at(p, starts, i);
     }
 }
 
-// The outcome itself. Every function over the table ends with a call that extracts its answer from what the core returned; here that
-// is all of it.
-fn same(outcome: Outcome) -> Outcome
-    ensures { result ≡ outcome }
+// What reading answers, and how many records are listed, with a list that is long enough for every record. It is a parameter of its own for
+// the reason that `pool::list_for` gives.
+fn read_by(p: &[u8], room: usize, starts: &mut [u16]) -> Counted<Result<usize, Refusal>>
+    requires { Reaches starts.old p.now }
+    ensures { (answer_of result.answer ≡ read_of p.now room) × (result.records ≡ records_in result.answer) × Listed p.now room starts.new }
 {
-    outcome
+    let answer = pool::list_for(p, room, starts);
+    Counted {
+        records: pool::records_of(answer),
+        answer,
+    }
 }
 
-// Reading lists the records by their starts in one walk over the pool, then fills the table by that list. A list with room for every
-// pool takes long to clear, so a short pool gets a short one. A record takes at least 12 bytes, and the starts are followed by the end
-// of the last record: 1,024 numbers are enough for 12,276 bytes, and 5,462 for every pool.
-fn read_short(p: &[u8], table: &mut [Record]) -> Outcome
-    requires { length p.now ≤ 12276 }
-    ensures { Reads p.now result table.old table.new }
-{
-    let mut starts = [0u16; 1024];
-    let outcome = pool::list_for(p, table.len(), &mut starts);
-    gather(p, &starts, pool::records_of(outcome), table);
-    same(outcome)
-}
-
-fn read_long(p: &[u8], table: &mut [Record]) -> Outcome
-    ensures { Reads p.now result table.old table.new }
-{
-    let mut starts = [0u16; 5462];
-    let outcome = pool::list_for(p, table.len(), &mut starts);
-    gather(p, &starts, pool::records_of(outcome), table);
-    same(outcome)
-}
-
-// Reads a pool into the table.
-pub fn read(p: &[u8], table: &mut [Record]) -> Outcome
+// Reads a pool into the table: lists the records by their starts in one walk over the pool, then fills the table by that list.
+pub fn read(p: &[u8], table: &mut [Record]) -> Result<usize, Refusal>
     ensures { (answer_of result ≡ read_of p.now (length table.old)) × (table.new ≡ records_after p.now table.old) }
 {
-    if p.len() <= 12276 {
-        return read_short(p, table);
-    }
-    read_long(p, table)
+    let room = table.len();
+    fill(p, table, |starts| read_by(p, room, starts))
 }

@@ -1,7 +1,5 @@
 -- `activation::activate`: the list that activating leaves gives the table of the pool that was checked, if one was.
-use Rattle.std.proofs.Common.{ℕ, ◌∙◌, ap, length}
-use Rattle.session.specs.Calls.{step_of}
-use Rattle.working_table.specs.Rows.{gathered}
+use Rattle.std.proofs.Common.{◌∙◌, length}
 use Rattle.activation.proofs.Filled.{records-filled}
 use Rattle.activation.proofs.activate.Goals as goal
 
@@ -9,15 +7,11 @@ pub gather-requires : goal.gather-requires
 gather-requires c =
     let a = c.args in
     let d = c.activate_in-activated in
-    let so = records-filled d.new.starts d.result.records a.table.now a.s a.staging.now (length a.kept.now) d.ensures.2 d.ensures.3 in
-    rw c.activated_records.ensures so.fillable
+    (records-filled d.new.starts d.result.records a.table.now a.s a.staging.now (length a.kept.now) d.ensures.2 d.ensures.3).fillable
 
 pub returns : goal.returns
 returns c =
     let a = c.args in
     let d = c.activate_in-activated in
-    let so = records-filled d.new.starts d.result.records a.table.now a.s a.staging.now (length a.kept.now) d.ensures.2 d.ensures.3 in (
-      ap step_of c.activated_step.ensures ∙ d.ensures.0,
-      d.ensures.1,
-      c.gather.ensures ∙ ap (λ (n : ℕ). gathered a.staging.now d.new.starts n a.table.now) c.activated_records.ensures ∙ so.same,
-    )
+    let so = records-filled d.new.starts d.result.records a.table.now a.s a.staging.now (length a.kept.now) d.ensures.2 d.ensures.3 in
+    (d.ensures.0, d.ensures.1, c.gather.ensures ∙ so.same)

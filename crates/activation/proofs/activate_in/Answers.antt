@@ -31,7 +31,7 @@ slice_bounds-settle-end c = sym (length-take-le c.args.s.announced c.args.stagin
 pub settle-requires : goal.settle-requires
 settle-requires c =
     let z = sized c.args.s c.args.staging.now c.args.kept.now (sym c.is_impossible.ensures ∙ c.if-is_impossible.false) (eq-eqb _ _ c.if-s-ne1.false) c.if-staging-announced.false in
-    (z.1, z.2, z.3, c.requires)
+    (z.2, z.3, c.requires)
 
 pub returns : goal.returns
 unfolding activate_of kept_after is_checked records_for

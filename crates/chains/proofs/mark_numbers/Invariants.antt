@@ -1,12 +1,11 @@
 -- `chains::mark_numbers` meets its contract: the element numbers of the records passed so far are marked, and those of these records that repeat one.
-use mathlib.Core.Path.{◌≡◌}
 use mathlib.Core.Bool.{Bool, ◌&&◌}
 use mathlib.Core.List.{List}
-use Prim.Native.Nat.{ℕ, ◌-◌, ◌≤◌}
+use Prim.Native.Nat.{ℕ}
 use lib.Dec.{eqb}
 use lib.ListN.{length}
 use Rattle.pool.specs.Reading.{Entry}
-use Rattle.pool.specs.Walk.{entries_of}
+use Rattle.naming.specs.Entries.{entries_in}
 use Rattle.naming.specs.Records.{kind_at}
 use Rattle.rules.specs.Table.{repeats, element_key}
 use Rattle.chains.specs.Noted.{Noted, HitsMarked}
@@ -18,7 +17,4 @@ repeated p es i = eqb (kind_at es i) 2 && repeats (element_key p es) (element_ke
 
 abbrev pub invariant-loop-i : goal.invariant-loop-i
 invariant-loop-i l =
-    (l.i ≤ l.count) × (length l.numbers ≡ length l.initial.numbers) × Noted 65536 (element_key l.p (entries_of l.p l.starts)) l.i l.numbers × (length l.marks ≡ length l.initial.marks) × HitsMarked (repeated l.p (entries_of l.p l.starts)) l.i l.marks
-
-abbrev pub decreases-loop-i : goal.decreases-loop-i
-decreases-loop-i l = l.count - l.i
+    Noted 65536 (element_key l.records.pool.now (entries_in l.records)) l.i l.numbers × HitsMarked (repeated l.records.pool.now (entries_in l.records)) l.i l.marks

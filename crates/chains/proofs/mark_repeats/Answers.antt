@@ -4,7 +4,4 @@ use Rattle.naming.proofs.Lists.{blank}
 use Rattle.chains.proofs.mark_repeats.Goals as goal
 
 pub mark_numbers-requires : goal.mark_numbers-requires
-mark_numbers-requires c = (c.requires.0.some, omega arith, blank 8192, c.requires.1, c.requires.2)
-
-pub returns : goal.returns
-returns c = c.mark_numbers.ensures
+mark_numbers-requires c = (omega arith, blank 8192, c.requires.0, c.requires.1)

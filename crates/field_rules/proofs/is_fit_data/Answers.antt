@@ -2,4 +2,4 @@
 use Rattle.field_rules.proofs.is_fit_data.Goals as goal
 
 pub returns : goal.returns
-returns c = rw (← c.is_bad_properties.ensures, ← c.is_bad_source.ensures, ← c.is_bad_triggers.ensures)
+returns c = rw (← c.is_bad_source.ensures)

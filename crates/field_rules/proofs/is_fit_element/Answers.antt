@@ -2,4 +2,4 @@
 use Rattle.field_rules.proofs.is_fit_element.Goals as goal
 
 pub returns : goal.returns
-returns c = rw (← c.is_bad_type.ensures, ← c.is_bad_number.ensures)
+returns c = rw (← c.is_bad_type.ensures)

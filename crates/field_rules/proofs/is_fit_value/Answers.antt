@@ -2,4 +2,4 @@
 use Rattle.field_rules.proofs.is_fit_value.Goals as goal
 
 pub returns : goal.returns
-returns c = rw (← c.is_bad_scale.ensures, ← c.is_bad_decimals.ensures)
+returns c = rw (← c.is_bad_scale.ensures)

@@ -1,7 +1,6 @@
 -- `field_rules::put_presentation` meets its contract.
-use native.Mathlib.Omega.{arith}
-use Rattle.faults.proofs.Emission.{puts_then}
+use Rattle.faults.proofs.Adding.{adds_then}
 use Rattle.field_rules.proofs.put_presentation.Goals as goal
 
 pub returns : goal.returns
-returns c = rw (← c.is_missing.ensures, ← c.is_wrong.ensures) (puts_then c.put_if-n6.ensures.0 c.put_if.ensures.0, omega (arith, c.put_if-n6.ensures.1, c.put_if.ensures.1))
+returns c = rw (← c.is_missing.ensures, ← c.is_presentation.ensures, ← c.is_wrong-wrong.ensures) (adds_then c.put_if.ensures c.put_if-2.ensures)

@@ -1,49 +1,58 @@
 -- `judging::error_in` meets its contract: each return is a case of the definition.
-use mathlib.Core.Path.{sym, ◌∙◌}
+use mathlib.Core.Path.{sym, ap, ◌∙◌}
 use native.Mathlib.Omega.{arith}
-use mir.Syntax.{w32}
-use mir.ValLaws.{to_z-of_z}
-use Rattle.pool.specs.Walk.{entries_of}
-use Rattle.naming.proofs.Names.{names-divided, names-some}
-use Rattle.judging.proofs.Erring.{no-command, element-missing, element-inside, object-inside, object-missing, object-found}
+use Rattle.records.specs.Layout.{mark_code}
+use Rattle.naming.specs.Entries.{entries_in}
+use Rattle.naming.proofs.Names.{names-some, names-few}
+use Rattle.queries.specs.Parts.{numbered}
+use Rattle.judging.proofs.Erring.{no-command, no_element, element-inside, object-inside, object-missing, object-found}
 use Rattle.judging.proofs.error_in.Goals as goal
 
 pub returns-then-not-carries_value : goal.returns-then-not-carries_value
 returns-then-not-carries_value c =
     let a = c.args in
-    no-command a.p.now (entries_of a.p.now a.starts.now) a.command a.element a.ddi a.value (sym c.carries_value.ensures ∙ c.if-not-carries_value.true)
+    let r = a.names.now.records in
+    no-command r.pool.now (entries_in r) a.command.number a.command.element a.command.ddi a.command.value (sym c.carries_value.ensures ∙ c.if-not-carries_value.true)
 
-pub find_element-number-requires : goal.find_element-number-requires
-find_element-number-requires c =
+pub returns-in_default : goal.returns-in_default
+returns-in_default c =
     let a = c.args in
-    names-divided a.p.now a.starts.now a.heads.now a.next.now c.requires
+    let r = a.names.now.records in
+    no_element r.pool.now (entries_in r) a.command.number a.command.element a.command.ddi a.command.value (sym c.carries_value.ensures ∙ c.if-not-carries_value.false) (sym c.find_element.ensures ∙ ap numbered c.in_default.is)
 
-pub returns-then-number-eq0 : goal.returns-then-number-eq0
-returns-then-number-eq0 c =
+pub offset_bounds-starts-owner : goal.offset_bounds-starts-owner
+offset_bounds-starts-owner c =
     let a = c.args in
-    let some = names-some a.p.now a.starts.now a.heads.now a.next.now c.requires in
-    element-missing a.p.now a.starts.now some a.command a.element a.ddi a.value (sym c.carries_value.ensures ∙ c.if-not-carries_value.false) c.find_element-number.result c.find_element-number.ensures c.if-number-eq0.true
+    let r = a.names.now.records in
+    omega (arith, names-few a.names.now, element-inside r.pool.now r.starts.now (names-some a.names.now) a.command.number a.command.element a.command.ddi a.command.value (sym c.carries_value.ensures ∙ c.if-not-carries_value.false) c.in-Some.owner (sym c.find_element.ensures ∙ ap numbered c.in-Some.is))
 
-pub bounds-starts-number : goal.bounds-starts-number
-bounds-starts-number c =
+pub bounds-starts-owner : goal.bounds-starts-owner
+bounds-starts-owner c =
     let a = c.args in
-    let some = names-some a.p.now a.starts.now a.heads.now a.next.now c.requires in
-    omega (arith, element-inside a.p.now a.starts.now some a.command a.element a.ddi a.value (sym c.carries_value.ensures ∙ c.if-not-carries_value.false) c.find_element-number.result c.find_element-number.ensures)
+    let r = a.names.now.records in
+    omega (arith, element-inside r.pool.now r.starts.now (names-some a.names.now) a.command.number a.command.element a.command.ddi a.command.value (sym c.carries_value.ensures ∙ c.if-not-carries_value.false) c.in-Some.owner (sym c.find_element.ensures ∙ ap numbered c.in-Some.is))
 
-pub returns-then-object-eq0 : goal.returns-then-object-eq0
-returns-then-object-eq0 c =
+pub returns-in_default-find_object : goal.returns-in_default-find_object
+returns-in_default-find_object c =
     let a = c.args in
-    let some = names-some a.p.now a.starts.now a.heads.now a.next.now c.requires in
-    object-missing a.p.now a.starts.now some a.command a.element a.ddi a.value (sym c.carries_value.ensures ∙ c.if-not-carries_value.false) c.find_element-number.result c.find_element-number.ensures c.if-number-eq0.false c.find_object-object.result c.find_object-object.ensures c.if-object-eq0.true
+    let r = a.names.now.records in
+    object-missing r.pool.now r.starts.now (names-some a.names.now) a.command.number a.command.element a.command.ddi a.command.value (sym c.carries_value.ensures ∙ c.if-not-carries_value.false) c.in-Some.owner (sym c.find_element.ensures ∙ ap numbered c.in-Some.is) (sym c.find_object.ensures ∙ ap numbered c.in_default-find_object.is)
+
+pub offset_bounds-starts-object : goal.offset_bounds-starts-object
+offset_bounds-starts-object c =
+    let a = c.args in
+    let r = a.names.now.records in
+    omega (arith, names-few a.names.now, object-inside r.pool.now r.starts.now (names-some a.names.now) a.command.number a.command.element a.command.ddi a.command.value (sym c.carries_value.ensures ∙ c.if-not-carries_value.false) c.in-Some.owner (sym c.find_element.ensures ∙ ap numbered c.in-Some.is) c.in-Some-find_object.object (sym c.find_object.ensures ∙ ap numbered c.in-Some-find_object.is))
 
 pub bounds-starts-object : goal.bounds-starts-object
 bounds-starts-object c =
     let a = c.args in
-    let some = names-some a.p.now a.starts.now a.heads.now a.next.now c.requires in
-    omega (arith, object-inside a.p.now a.starts.now some a.command a.element a.ddi a.value (sym c.carries_value.ensures ∙ c.if-not-carries_value.false) c.find_element-number.result c.find_element-number.ensures c.if-number-eq0.false c.find_object-object.result c.find_object-object.ensures)
+    let r = a.names.now.records in
+    omega (arith, object-inside r.pool.now r.starts.now (names-some a.names.now) a.command.number a.command.element a.command.ddi a.command.value (sym c.carries_value.ensures ∙ c.if-not-carries_value.false) c.in-Some.owner (sym c.find_element.ensures ∙ ap numbered c.in-Some.is) c.in-Some-find_object.object (sym c.find_object.ensures ∙ ap numbered c.in-Some-find_object.is))
 
 pub returns : goal.returns
 returns c =
     let a = c.args in
-    let some = names-some a.p.now a.starts.now a.heads.now a.next.now c.requires in
-    object-found a.p.now a.starts.now some a.command a.element a.ddi a.value (sym c.carries_value.ensures ∙ c.if-not-carries_value.false) c.find_element-number.result c.find_element-number.ensures c.if-number-eq0.false c.find_object-object.result c.find_object-object.ensures c.if-object-eq0.false c.kind.result c.bits_of-bits.result.properties c.bits_of-bits.result.triggers c.object_error.result c.kind.ensures c.bits_of-bits.ensures.0 c.bits_of-bits.ensures.1 (rw (to_z-of_z w32 a.value c.ranges.value) at c.object_error.ensures)
+    let r = a.names.now.records in
+    object-found r.pool.now r.starts.now (names-some a.names.now) a.command.number a.command.element a.command.ddi a.command.value (sym c.carries_value.ensures ∙ c.if-not-carries_value.false) c.in-Some.owner (sym c.find_element.ensures ∙ ap numbered c.in-Some.is) c.in-Some-find_object.object (sym c.find_object.ensures ∙ ap numbered c.in-Some-find_object.is)
+    (mark_code c.mark.result) c.bits_of-bits.result.properties c.bits_of-bits.result.triggers c.object_error.result (ap mark_code c.mark.ensures) c.bits_of-bits.ensures.0 c.bits_of-bits.ensures.1 (c.object_error.ensures)

@@ -1,7 +1,5 @@
 -- `judging::object_error` meets its contract: each return is a case of the definition.
 use mathlib.Core.Path.{sym, ◌∙◌}
-use mir.Syntax.{w32}
-use mir.ValLaws.{to_z-of_z}
 use Rattle.judging.specs.Judging.{error_of_object}
 use Rattle.judging.proofs.object_error.Goals as goal
 
@@ -15,8 +13,8 @@ returns-then-lacks_trigger c = rw (sym c.lacks_setting.ensures ∙ c.if-lacks_se
 
 pub returns-then-lacks_interval : goal.returns-then-lacks_interval
 unfolding error_of_object
-returns-then-lacks_interval c = rw (sym c.lacks_setting.ensures ∙ c.if-lacks_setting.false, sym c.lacks_trigger.ensures ∙ c.if-lacks_trigger.false, sym (rw (to_z-of_z w32 c.args.value c.ranges.value) at c.lacks_interval.ensures) ∙ c.if-lacks_interval.true)
+returns-then-lacks_interval c = rw (sym c.lacks_setting.ensures ∙ c.if-lacks_setting.false, sym c.lacks_trigger.ensures ∙ c.if-lacks_trigger.false, sym c.lacks_interval.ensures ∙ c.if-lacks_interval.true)
 
 pub returns : goal.returns
 unfolding error_of_object
-returns c = rw (sym c.lacks_setting.ensures ∙ c.if-lacks_setting.false, sym c.lacks_trigger.ensures ∙ c.if-lacks_trigger.false, sym (rw (to_z-of_z w32 c.args.value c.ranges.value) at c.lacks_interval.ensures) ∙ c.if-lacks_interval.false)
+returns c = rw (sym c.lacks_setting.ensures ∙ c.if-lacks_setting.false, sym c.lacks_trigger.ensures ∙ c.if-lacks_trigger.false, sym c.lacks_interval.ensures ∙ c.if-lacks_interval.false)

@@ -4,4 +4,4 @@ use Rattle.listing.proofs.put_accepted.Goals as goal
 
 pub returns : goal.returns
 unfolding accepted_line
-returns c = c.lay.ensures
+returns c = c.put_bytes.ensures

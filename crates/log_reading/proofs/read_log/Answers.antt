@@ -1,156 +1,103 @@
 -- `log_reading::read_log` meets its contract: the walk over the bytes that are left gives the answer of the whole walk.
-use mathlib.Core.Path.{◌≡◌, sym, ap, ◌∙◌}
-use Prim.Native.Nat.{ℕ, ◌+◌, ◌*◌, ◌-◌, ◌≤◌, ◌<◌}
-use native.Mathlib.Nat.{sub-zero}
-use native.Mathlib.Omega.{arith}
-use borrow.Author.Tests.{lt-ltb, le-ltb}
-use mathlib.Core.List.{List}
-use lib.ListN.{length, get_or, take, drop, length-drop}
-use lib.Seq.{take_all, drop-drop}
-use Rattle.time_log.specs.Layout.{place_of, record_length}
+use Rattle.std.proofs.Common.{◌≡◌, ℕ, ◌+◌, ◌-◌, ◌≤◌, ◌<◌, List, length, take, drop, sym, ◌∙◌, arith, length-drop}
+use native.Mathlib.Nat.{sub-zero, sub_self}
+use lib.Seq.{take_all}
+use borrow.Author.Tests.{lt-ltb, le-ltb, eqb-true, eqb-false}
+use Rattle.std.proofs.lemmas.Result.{err_from_is_err_and}
 use Rattle.time_log.specs.Contents.{values_counted, extent_of}
 use Rattle.time_log.specs.Judging.{record_refusal}
-use Rattle.time_log.proofs.Parts.{place-small}
+use Rattle.time_log.proofs.Parts.{count_inside}
+use Rattle.time_log.proofs.Refusals.{refusal_some}
 use Rattle.log_reading.specs.Logs.{walk, log_of}
-use Rattle.log_reading.proofs.Divided.{extent-inside}
 use Rattle.log_reading.proofs.Prefix.{granted}
 use Rattle.log_reading.proofs.Walks.{walk_end, walk-on, walk-stop}
 use Rattle.log_reading.proofs.read_log.Goals as goal
 
 -- the bytes from a place on, as a part to the end
 abbrev rest : List ℕ → ℕ → List ℕ
-rest s at = take (length s - at) (drop at s)
+rest s w = take (length s - w) (drop w s)
 
-tail : (s : List ℕ) (at : ℕ) → rest s at ≡ drop at s
-tail s at = let n = length-drop at s in take_all (length s - at) (drop at s) (omega (arith, n))
+tail : (s : List ℕ) (w : ℕ) → rest s w ≡ drop w s
+tail s w = let n = length-drop w s in take_all (length s - w) (drop w s) (omega (arith, n))
 
 -- a record that is not refused has bytes, and they are there
-turn : (layout logged : ℕ) (s : List ℕ) (at w : ℕ) → at < length s → record_refusal layout logged (rest s at) ≡ 0 → w ≡ extent_of layout (rest s at)
-    → (0 < w) × (at + w ≤ length s)
-turn layout logged s at w h e f =
-    let g = granted layout logged (drop at s) (rw (tail s at) at e) in
-    let m : w ≡ extent_of layout (drop at s) = rw (tail s at) at f in
-    let n = length-drop at s in
-    (omega (arith, m, extent-inside layout (values_counted layout (drop at s))), omega (arith, m, n, g.whole, h))
+module _ (layout logged w : ℕ) (s : List ℕ) (read : record_refusal layout logged s ≡ 0) (extent : w ≡ extent_of layout s) where
+  there : (0 < w) × (w ≤ length s)
+  there =
+      let g = granted layout logged s read in
+      (omega (arith, extent, count_inside layout (values_counted layout s)), omega (arith, extent, g.whole))
 
-on : (layout logged : ℕ) (s : List ℕ) (at n w : ℕ) → n ≤ at → at < length s → record_refusal layout logged (rest s at) ≡ 0 → w ≡ extent_of layout (rest s at)
-    → walk layout logged (length s - (n + 1)) (at + w) (n + 1) (drop (at + w) s) ≡ walk layout logged (length s - n) at n (drop at s)
-on layout logged s at n w l h e f =
-    let m : w ≡ extent_of layout (drop at s) = rw (tail s at) at f in
-    let k = length-drop at s in
-    let d : length s - n - 1 ≡ length s - (n + 1) = omega arith in
-    rw (m, ← drop-drop (extent_of layout (drop at s)) at s, ← d)
-    (walk-on layout logged (length s - n) at n (drop at s) (omega (arith, l, h)) (omega (arith, k, h)) (rw (tail s at) at e))
+  less : length (rest s w) < length s
+  less = let n = length-drop w s in rw (tail s w) (omega (arith, n, there))
 
-extent : (layout count : ℕ) (r : List ℕ) → count ≡ place_of layout 9 → count + 1 + 5 * get_or r count 0 ≡ extent_of layout r
-unfolding record_length
-extent layout count r e = rw e
+  inside : (b : List ℕ) → length s ≤ length b → length (rest s w) ≤ length b
+  inside b h = omega (arith, less)
 
-pub returns-then-layout-gt511 : goal.returns-then-layout-gt511
+  counted : (b : List ℕ) (n : ℕ) → length s ≤ length b → n ≤ length b - length s → n + 1 ≤ length b - length (rest s w)
+  counted b n h k = omega (arith, less, k)
+
+  walked : (b : List ℕ) (n : ℕ) → length s ≤ length b → n ≤ length b - length s
+      → walk layout logged (length b - (n + 1)) (length b - length (rest s w)) (n + 1) (rest s w) ≡ walk layout logged (length b - n) (length b - length s) n s
+  walked b n h k =
+      let m = length-drop w s in
+      let t : length b - length (drop w s) ≡ length b - length s + w = omega (arith, m, there, h) in
+      let d : length b - n - 1 ≡ length b - (n + 1) = omega arith in
+      rw (tail s w, t, extent, ← d) (walk-on layout logged (length b - n) (length b - length s) n s (omega (arith, k, there, h)) (omega (arith, there)) read)
+
+pub returns-in_err-judge_layout : goal.returns-in_err-judge_layout
 unfolding log_of
-returns-then-layout-gt511 c = rw (lt-ltb _ _ c.if-layout-gt511.true)
+returns-in_err-judge_layout c =
+    let p = err_from_is_err_and c.from_residual.result c.from_residual.ensures.1 in
+    rw (p.1, p.2, c.in_err-judge_layout.ensures.1, lt-ltb _ _ c.in_err-judge_layout.ensures.0)
 
-pub loop-at-init : goal.loop-at-init
+pub records-init : goal.records-init
 unfolding log_of
-loop-at-init c = (omega arith, omega arith, rw (le-ltb _ _ c.if-layout-gt511.false, sub-zero))
+records-init c =
+    record {
+      inside = omega arith;
+      counted = omega arith;
+      walked = rw (le-ltb _ _ c.in_ok-judge_layout.ensures, sub-zero, sub_self);
+    }
 
-pub refusal-number-requires : goal.refusal-number-requires
-refusal-number-requires c = (c.if-layout-gt511.false, c.places_of-places.ensures)
-
-pub returns-then-number-ne0 : goal.returns-then-number-ne0
-returns-then-number-ne0 c =
+pub slice_bounds-rest-count : goal.slice_bounds-rest-count
+slice_bounds-rest-count c =
     let a = c.args in
-    let l = c.loop-at in
-    let s = a.bytes.now in
-    let n = length-drop l.at s in
-    let t : 0 < length s - l.n = omega (arith, l.invariant.0, c.loop-at-test.true) in
-    walk-stop a.layout a.logged (length s - l.n) l.at l.n (drop l.at s) c.refusal-number.result t (omega (arith, n, c.loop-at-test.true)) (c.refusal-number.ensures ∙ ap (record_refusal a.layout a.logged) (tail s l.at)) c.if-number-ne0.true
-    ∙ l.invariant.2
+    (there a.layout a.logged c.in-Ok.length c.records.rest.now (sym (rw c.places_of-places.ensures at c.in-Ok.ensures.number)) (rw c.places_of-places.ensures at c.in-Ok.ensures.extent)).1
 
-pub overflow_add-at : goal.overflow_add-at
-overflow_add-at c = omega (arith, place-small c.args.layout 9, c.places_of-places.ensures.count)
-
-pub bounds-rest-count : goal.bounds-rest-count
-bounds-rest-count c =
+pub slice_bounds-rest-start : goal.slice_bounds-rest-start
+slice_bounds-rest-start c =
     let a = c.args in
-    let l = c.loop-at in
-    let s = a.bytes.now in
-    let e = c.places_of-places.ensures.count in
-    let z : record_refusal a.layout a.logged (rest s l.at) ≡ 0 = sym c.refusal-number.ensures ∙ c.if-number-ne0.false in
-    let g = granted a.layout a.logged (rest s l.at) z in
-    omega (arith, g.counted, e)
+    (there a.layout a.logged c.in-Ok.length c.records.rest.now (sym (rw c.places_of-places.ensures at c.in-Ok.ensures.number)) (rw c.places_of-places.ensures at c.in-Ok.ensures.extent)).1
 
-pub overflow_cast-at : goal.overflow_cast-at
-overflow_cast-at c =
+pub returns-in-Err : goal.returns-in-Err
+returns-in-Err c =
     let a = c.args in
-    let l = c.loop-at in
-    let s = a.bytes.now in
-    let e = c.places_of-places.ensures.count in
-    let z : record_refusal a.layout a.logged (rest s l.at) ≡ 0 = sym c.refusal-number.ensures ∙ c.if-number-ne0.false in
-    let g = granted a.layout a.logged (rest s l.at) z in
-    let b = c.shared_slice_known-in-loop-at-1.given c.places_of-places.result.count in
-    omega (arith, b)
+    let l = c.records in
+    let d = eqb-false (length l.rest.now) 0 (sym c.records-test.ensures) in
+    let some : 0 < length l.rest.now = omega (arith, d) in
+    walk-stop a.layout a.logged (length a.bytes.now - l.count) (length a.bytes.now - length l.rest.now) l.count l.rest.now _ (omega (arith, some, l.invariant.inside, l.invariant.counted)) some
+    (rw c.places_of-places.ensures at c.in-Err.ensures.number) (refusal_some c.in-Err.refusal)
+    ∙ l.invariant.walked
 
-pub overflow_mul-at : goal.overflow_mul-at
-overflow_mul-at c =
+pub records-smaller : goal.records-smaller
+records-smaller c =
     let a = c.args in
-    let l = c.loop-at in
-    let s = a.bytes.now in
-    let e = c.places_of-places.ensures.count in
-    let z : record_refusal a.layout a.logged (rest s l.at) ≡ 0 = sym c.refusal-number.ensures ∙ c.if-number-ne0.false in
-    let g = granted a.layout a.logged (rest s l.at) z in
-    let b = c.shared_slice_known-in-loop-at-1.given c.places_of-places.result.count in
-    omega (arith, b)
+    less a.layout a.logged c.in-Ok.length c.records.rest.now (sym (rw c.places_of-places.ensures at c.in-Ok.ensures.number)) (rw c.places_of-places.ensures at c.in-Ok.ensures.extent)
 
-pub overflow_add-at-in-loop-at : goal.overflow_add-at-in-loop-at
-overflow_add-at-in-loop-at c =
+pub records-preserved : goal.records-preserved
+records-preserved c =
     let a = c.args in
-    let l = c.loop-at in
-    let s = a.bytes.now in
-    let e = c.places_of-places.ensures.count in
-    let z : record_refusal a.layout a.logged (rest s l.at) ≡ 0 = sym c.refusal-number.ensures ∙ c.if-number-ne0.false in
-    let g = granted a.layout a.logged (rest s l.at) z in
-    let b = c.shared_slice_known-in-loop-at-1.given c.places_of-places.result.count in
-    omega (arith, b, e, place-small a.layout 9)
-
-pub overflow_add-at-in-loop-at-2 : goal.overflow_add-at-in-loop-at-2
-overflow_add-at-in-loop-at-2 c =
-    let a = c.args in
-    let l = c.loop-at in
-    let s = a.bytes.now in
-    let e = c.places_of-places.ensures.count in
-    let z : record_refusal a.layout a.logged (rest s l.at) ≡ 0 = sym c.refusal-number.ensures ∙ c.if-number-ne0.false in
-    let g = granted a.layout a.logged (rest s l.at) z in
-    let x = extent a.layout c.places_of-places.result.count (rest s l.at) e in
-    let h = turn a.layout a.logged s l.at _ c.loop-at-test.true z x in
-    omega (arith, h.1)
-
-pub loop-at-smaller : goal.loop-at-smaller
-loop-at-smaller c =
-    let a = c.args in
-    let l = c.loop-at in
-    let s = a.bytes.now in
-    let e = c.places_of-places.ensures.count in
-    let z : record_refusal a.layout a.logged (rest s l.at) ≡ 0 = sym c.refusal-number.ensures ∙ c.if-number-ne0.false in
-    let g = granted a.layout a.logged (rest s l.at) z in
-    let x = extent a.layout c.places_of-places.result.count (rest s l.at) e in
-    let h = turn a.layout a.logged s l.at _ c.loop-at-test.true z x in
-    omega (arith, h.0, h.1)
-
-pub loop-at-preserved : goal.loop-at-preserved
-loop-at-preserved c =
-    let a = c.args in
-    let l = c.loop-at in
-    let s = a.bytes.now in
-    let e = c.places_of-places.ensures.count in
-    let z : record_refusal a.layout a.logged (rest s l.at) ≡ 0 = sym c.refusal-number.ensures ∙ c.if-number-ne0.false in
-    let g = granted a.layout a.logged (rest s l.at) z in
-    let x = extent a.layout c.places_of-places.result.count (rest s l.at) e in
-    let h = turn a.layout a.logged s l.at _ c.loop-at-test.true z x in
-    (omega (arith, l.invariant.0, h.0), omega (arith, h.1), on a.layout a.logged s l.at l.n _ l.invariant.0 c.loop-at-test.true z x ∙ l.invariant.2)
+    let l = c.records in
+    let read : record_refusal a.layout a.logged l.rest.now ≡ 0 = sym (rw c.places_of-places.ensures at c.in-Ok.ensures.number) in
+    let extent : c.in-Ok.length ≡ extent_of a.layout l.rest.now = rw c.places_of-places.ensures at c.in-Ok.ensures.extent in
+    record {
+      inside = inside a.layout a.logged c.in-Ok.length l.rest.now read extent a.bytes.now l.invariant.inside;
+      counted = counted a.layout a.logged c.in-Ok.length l.rest.now read extent a.bytes.now l.count l.invariant.inside l.invariant.counted;
+      walked = walked a.layout a.logged c.in-Ok.length l.rest.now read extent a.bytes.now l.count l.invariant.inside l.invariant.counted ∙ l.invariant.walked;
+    }
 
 pub returns : goal.returns
 returns c =
     let a = c.args in
-    let l = c.loop-at in
-    walk_end a.layout a.logged (length a.bytes.now - l.n) l.at l.n (drop l.at a.bytes.now) (omega (arith, length-drop l.at a.bytes.now, c.loop-at-test.false)) ∙ l.invariant.2
+    let l = c.records in
+    walk_end a.layout a.logged (length a.bytes.now - l.count) (length a.bytes.now - length l.rest.now) l.count l.rest.now (eqb-true (length l.rest.now) 0 (sym c.records-test.ensures)) ∙ l.invariant.walked

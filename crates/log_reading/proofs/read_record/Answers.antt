@@ -1,84 +1,73 @@
 -- `log_reading::read_record` meets its contract: each return is a case of the definition.
-use mathlib.Core.Path.{sym, ◌∙◌}
-use native.Mathlib.Omega.{arith}
-use Rattle.time_log.specs.Layout.{record_length}
-use Rattle.time_log.proofs.Parts.{place-small}
-use Rattle.time_log.proofs.Refusals.{not-a-layout, ends-early, ends-inside, whole-record}
-use Rattle.log_reading.proofs.Answers.{neither, judged, lists-short, lists-long, after-refusal, after-success}
+use Rattle.std.proofs.Common.{◌≡◌, ◌+◌, ◌<◌, ◌≤◌, length, sym, ◌∙◌, arith}
+use Rattle.std.proofs.lemmas.Result.{err_from_is_err_and}
+use Rattle.time_log.specs.Layout.{place_of, record_length}
+use Rattle.time_log.specs.Contents.{values_counted, extent_of}
+use Rattle.time_log.proofs.Parts.{place-small, count_inside}
+use Rattle.time_log.proofs.Refusals.{not-a-layout, ends-inside, whole-record}
+use Rattle.log_reading.proofs.Answers.{neither, lists-short, lists-long, after-refusal, refused-as, after-success}
 use Rattle.log_reading.proofs.read_record.Goals as goal
 
-pub returns-then-layout-gt511 : goal.returns-then-layout-gt511
-returns-then-layout-gt511 c =
+pub returns-in_err-judge_layout : goal.returns-in_err-judge_layout
+returns-in_err-judge_layout c =
     let a = c.args in
-    let h = after-refusal a.layout a.logged a.bytes.now a.ordinals.now a.values.now 47 (judged a.layout a.logged a.bytes.now a.ordinals.now a.values.now 47 (not-a-layout a.layout a.logged a.bytes.now c.if-layout-gt511.true) (λ e. absurd (omega (arith, e)))) (λ e. absurd (omega (arith, e))) in
-    (c.refused.ensures ∙ h.0, h.1, h.2)
+    let p = err_from_is_err_and c.from_residual.result c.from_residual.ensures.1 in
+    rw (p.1, p.2)
+    (refused-as a.layout a.logged a.bytes.now a.ordinals.now a.values.now _ (rw c.in_err-judge_layout.ensures.1 (not-a-layout a.layout a.logged a.bytes.now c.in_err-judge_layout.ensures.0)))
 
-pub returns-then-bytes-at : goal.returns-then-bytes-at
-returns-then-bytes-at c =
+pub returns-in_err-count : goal.returns-in_err-count
+returns-in_err-count c =
     let a = c.args in
-    let h = after-refusal a.layout a.logged a.bytes.now a.ordinals.now a.values.now 40 (judged a.layout a.logged a.bytes.now a.ordinals.now a.values.now 40 (ends-early a.layout a.logged a.bytes.now c.if-layout-gt511.false (omega (arith, c.if-bytes-at.true, c.places_of-places.ensures.count))) (λ e. absurd (omega (arith, e)))) (λ e. absurd (omega (arith, e))) in
-    (c.refused-then-bytes-at.ensures ∙ h.0, h.1, h.2)
+    let p = err_from_is_err_and c.from_residual-in_err-count.result c.from_residual-in_err-count.ensures.1 in
+    let short : length a.bytes.now < extent_of a.layout a.bytes.now = rw c.places_of-places.ensures at c.in_err-count.ensures.1 in
+    rw (p.1, p.2)
+    (refused-as a.layout a.logged a.bytes.now a.ordinals.now a.values.now _ (rw c.in_err-count.ensures.0 (ends-inside a.layout a.logged a.bytes.now c.in_ok-judge_layout.ensures short)))
 
-pub overflow_cast-n : goal.overflow_cast-n
-overflow_cast-n c = omega (arith, c.shared_slice_known-2-1.given c.places_of-places.result.count)
-
-pub overflow_add-length : goal.overflow_add-length
-overflow_add-length c = omega (arith, place-small c.args.layout 9, c.places_of-places.ensures.count, c.shared_slice_known-2-1.given c.places_of-places.result.count)
-
-pub overflow_mul-length : goal.overflow_mul-length
-overflow_mul-length c = omega (arith, place-small c.args.layout 9, c.places_of-places.ensures.count, c.shared_slice_known-2-1.given c.places_of-places.result.count)
-
-pub overflow_add-length-2 : goal.overflow_add-length-2
-overflow_add-length-2 c = omega (arith, place-small c.args.layout 9, c.places_of-places.ensures.count, c.shared_slice_known-2-1.given c.places_of-places.result.count)
-
-pub returns-then-bytes-length : goal.returns-then-bytes-length
-unfolding record_length
-returns-then-bytes-length c =
-    let a = c.args in
-    let h = after-refusal a.layout a.logged a.bytes.now a.ordinals.now a.values.now 40 (judged a.layout a.logged a.bytes.now a.ordinals.now a.values.now 40 (ends-inside a.layout a.logged a.bytes.now c.if-layout-gt511.false (omega (arith, c.if-bytes-at.false, c.places_of-places.ensures.count)) (rw c.places_of-places.ensures.count at c.if-bytes-length.true)) (λ e. absurd (omega (arith, e)))) (λ e. absurd (omega (arith, e))) in
-    (c.refused-then-bytes-length.ensures ∙ h.0, h.1, h.2)
+pub overflow_add-pairs : goal.overflow_add-pairs
+overflow_add-pairs c = omega (arith, place-small c.places_of-places.result.layout 9, c.count-pairs.ensures)
 
 pub fields_of-fields-requires : goal.fields_of-fields-requires
-fields_of-fields-requires c = (c.places_of-places.ensures, omega (arith, c.if-bytes-at.false, c.places_of-places.ensures.count))
-
-pub overflow_add-at : goal.overflow_add-at
-overflow_add-at c = omega (arith, place-small c.args.layout 9, c.places_of-places.ensures.count, c.shared_slice_known-2-1.given c.places_of-places.result.count)
+fields_of-fields-requires c =
+    let layout = c.places_of-places.result.layout in
+    omega (arith, count_inside layout (values_counted layout c.args.bytes.now), c.in_ok-count.ensures.2)
 
 pub any_over-over-requires : goal.any_over-over-requires
-any_over-over-requires c = omega (arith, c.if-bytes-length.false)
-
-pub returns-then-number-ne0 : goal.returns-then-number-ne0
 unfolding record_length
-returns-then-number-ne0 c =
-    let a = c.args in
-    let x = whole-record a.layout a.logged a.bytes.now c.if-layout-gt511.false (omega (arith, c.if-bytes-at.false, c.places_of-places.ensures.count)) (rw c.places_of-places.ensures.count at c.if-bytes-length.false) c.judged-number.result (rw (c.fields_of-fields.ensures, c.any_over-over.ensures, c.places_of-places.ensures.count) at c.judged-number.ensures) in
-    let h = after-refusal a.layout a.logged a.bytes.now a.ordinals.now a.values.now c.judged-number.result (judged a.layout a.logged a.bytes.now a.ordinals.now a.values.now c.judged-number.result x c.if-number-ne0.true) c.if-number-ne0.true in
-    (c.refused-then-number-ne0.ensures ∙ h.0, h.1, h.2)
+any_over-over-requires c = omega (arith, c.count-pairs.ensures, c.in_ok-count.ensures.0, c.in_ok-count.ensures.2)
 
-pub returns-then-ordinals-n : goal.returns-then-ordinals-n
+pub returns-in_err-judge_fields : goal.returns-in_err-judge_fields
+returns-in_err-judge_fields c =
+    let a = c.args in
+    let p = err_from_is_err_and c.from_residual-in_err-judge_fields.result c.from_residual-in_err-judge_fields.ensures.1 in
+    let whole : extent_of a.layout a.bytes.now ≤ length a.bytes.now = rw c.places_of-places.ensures at c.in_ok-count.ensures.2 in
+    rw (p.1, p.2)
+    (refused-as a.layout a.logged a.bytes.now a.ordinals.now a.values.now _
+    (whole-record a.layout a.logged a.bytes.now c.in_ok-judge_layout.ensures whole _
+    (rw (c.fields_of-fields.ensures, c.any_over-over.ensures, c.count-pairs.ensures, c.in_ok-count.ensures.0, c.places_of-places.ensures) at c.in_err-judge_fields.ensures)))
+
+pub returns-then-ordinals-count : goal.returns-then-ordinals-count
+returns-then-ordinals-count c =
+    let a = c.args in
+    let whole : extent_of a.layout a.bytes.now ≤ length a.bytes.now = rw c.places_of-places.ensures at c.in_ok-count.ensures.2 in
+    let x = whole-record a.layout a.logged a.bytes.now c.in_ok-judge_layout.ensures whole 0 (rw (c.fields_of-fields.ensures, c.any_over-over.ensures, c.count-pairs.ensures, c.in_ok-count.ensures.0, c.places_of-places.ensures) at c.in_ok-judge_fields.ensures) in
+    after-refusal a.layout a.logged a.bytes.now a.ordinals.now a.values.now 46
+    (lists-short a.layout a.logged a.bytes.now a.ordinals.now a.values.now (sym x) (rw (c.in_ok-count.ensures.0, c.places_of-places.ensures) at c.if-ordinals-count.true))
+    (λ e. absurd (omega (arith, e)))
+
+pub take_pairs-requires : goal.take_pairs-requires
 unfolding record_length
-returns-then-ordinals-n c =
-    let a = c.args in
-    let x = whole-record a.layout a.logged a.bytes.now c.if-layout-gt511.false (omega (arith, c.if-bytes-at.false, c.places_of-places.ensures.count)) (rw c.places_of-places.ensures.count at c.if-bytes-length.false) c.judged-number.result (rw (c.fields_of-fields.ensures, c.any_over-over.ensures, c.places_of-places.ensures.count) at c.judged-number.ensures) in
-    let h = after-refusal a.layout a.logged a.bytes.now a.ordinals.now a.values.now 46 (lists-short a.layout a.logged a.bytes.now a.ordinals.now a.values.now (sym x ∙ c.if-number-ne0.false) (rw c.places_of-places.ensures.count at c.if-ordinals-n.true)) (λ e. absurd (omega (arith, e))) in
-    (c.refused-then-ordinals-n.ensures ∙ h.0, h.1, h.2)
-
-pub overflow_add-at-2 : goal.overflow_add-at-2
-overflow_add-at-2 c = omega (arith, place-small c.args.layout 9, c.places_of-places.ensures.count, c.shared_slice_known-2-1.given c.places_of-places.result.count)
-
-pub fill_ordinals-requires : goal.fill_ordinals-requires
-fill_ordinals-requires c = ((neither _ _ _ c.if-ordinals-n.false).0, omega (arith, c.if-bytes-length.false))
-
-pub overflow_add-at-3 : goal.overflow_add-at-3
-overflow_add-at-3 c = omega (arith, place-small c.args.layout 9, c.places_of-places.ensures.count, c.shared_slice_known-2-1.given c.places_of-places.result.count)
-
-pub fill_values-requires : goal.fill_values-requires
-fill_values-requires c = ((neither _ _ _ c.if-ordinals-n.false).1, omega (arith, c.shared_slice_known-2-1.given c.places_of-places.result.count), omega (arith, c.if-bytes-length.false))
+take_pairs-requires c =
+    let n = neither _ _ _ c.if-ordinals-count.false in
+    (n.0, n.1, c.in_ok-count.ensures.1, omega (arith, c.count-pairs.ensures, c.in_ok-count.ensures.0, c.in_ok-count.ensures.2))
 
 pub returns : goal.returns
-unfolding record_length
 returns c =
     let a = c.args in
-    let x = whole-record a.layout a.logged a.bytes.now c.if-layout-gt511.false (omega (arith, c.if-bytes-at.false, c.places_of-places.ensures.count)) (rw c.places_of-places.ensures.count at c.if-bytes-length.false) c.judged-number.result (rw (c.fields_of-fields.ensures, c.any_over-over.ensures, c.places_of-places.ensures.count) at c.judged-number.ensures) in
-    let h = after-success a.layout a.logged a.bytes.now a.ordinals.now a.values.now (lists-long a.layout a.logged a.bytes.now a.ordinals.now a.values.now (sym x ∙ c.if-number-ne0.false) (rw c.places_of-places.ensures.count at c.if-ordinals-n.false)) in
-    (rw (c.fields_of-fields.ensures, c.places_of-places.ensures.count) h.0, (rw c.places_of-places.ensures.count at c.fill_ordinals.ensures) ∙ h.1, (rw c.places_of-places.ensures.count at c.fill_values.ensures) ∙ h.2)
+    let two : place_of a.layout 9 + 1 + 1 ≡ place_of a.layout 9 + 2 = omega arith in
+    let whole : extent_of a.layout a.bytes.now ≤ length a.bytes.now = rw c.places_of-places.ensures at c.in_ok-count.ensures.2 in
+    let x = whole-record a.layout a.logged a.bytes.now c.in_ok-judge_layout.ensures whole 0 (rw (c.fields_of-fields.ensures, c.any_over-over.ensures, c.count-pairs.ensures, c.in_ok-count.ensures.0, c.places_of-places.ensures) at c.in_ok-judge_fields.ensures) in
+    let h = after-success a.layout a.logged a.bytes.now a.ordinals.now a.values.now (lists-long a.layout a.logged a.bytes.now a.ordinals.now a.values.now (sym x) (rw (c.in_ok-count.ensures.0, c.places_of-places.ensures) at c.if-ordinals-count.false)) in (
+      rw (c.length_with.ensures, c.fields_of-fields.ensures, c.in_ok-count.ensures.0, c.places_of-places.ensures) h.0,
+      (rw (c.count-pairs.ensures, c.in_ok-count.ensures.0, c.places_of-places.ensures) at c.take_pairs.ensures.ordinals) ∙ h.1,
+      (rw (c.count-pairs.ensures, c.in_ok-count.ensures.0, c.places_of-places.ensures, two) at c.take_pairs.ensures.values) ∙ h.2,
+    )

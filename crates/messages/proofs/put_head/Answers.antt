@@ -11,8 +11,8 @@ pub bounds-to-1 : goal.bounds-to-1
 bounds-to-1 c = rw (length-set c.args.to.now 0 (c.args.element % 16 * 16 + c.args.command)) (omega (arith, c.requires.0))
 
 pub shape_of-to : goal.shape_of-to
-shape_of-to c = c.write_u16.auto.d ∙ length-set (set c.args.to.now 0 (c.args.element % 16 * 16 + c.args.command)) 1 (c.args.element / 16) ∙ length-set c.args.to.now 0 (c.args.element % 16 * 16 + c.args.command)
+shape_of-to c = c.write.auto.d ∙ length-set (set c.args.to.now 0 (c.args.element % 16 * 16 + c.args.command)) 1 (c.args.element / 16) ∙ length-set c.args.to.now 0 (c.args.element % 16 * 16 + c.args.command)
 
 pub returns : goal.returns
 unfolding head_bytes
-returns c = c.write_u16.ensures.1 ∙ head-laid c.args.to.now c.args.command c.args.element c.args.ddi (c.args.element % 16 * 16 + c.args.command) (c.args.element / 16) c.requires.0
+returns c = c.write.ensures.1 ∙ head-laid c.args.to.now c.args.command c.args.element c.args.ddi (c.args.element % 16 * 16 + c.args.command) (c.args.element / 16) c.requires.0

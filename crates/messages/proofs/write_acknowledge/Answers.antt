@@ -1,37 +1,23 @@
--- `messages::write_acknowledge` meets its contract: each return is a case of the definition.
-use mathlib.Core.Path.{refl, ◌∙◌}
+-- `messages::write_acknowledge` meets its contract: the head, and the answer behind it.
+use mathlib.Core.Path.{◌≡◌, refl, ◌∙◌}
 use mathlib.Core.List.{[], ◌∷◌}
 use Prim.Native.Nat.{◌+◌}
-use native.Mathlib.Omega.{arith}
-use borrow.Author.Tests.{lt-ltb, le-ltb, ltb-false}
 use lib.Dec.{ltb}
-use lib.Seq.{length-sets}
+use lib.ListN.{length}
+use lib.Seq.{sets}
 use Rattle.messages.specs.Layout.{head_bytes, acknowledge_bytes, acknowledge}
 use Rattle.messages.specs.Writing.{acknowledge_refusal, acknowledge_after}
 use Rattle.messages.proofs.Laying.{behind-head}
-use Rattle.wire.proofs.Either.{neither}
+use Rattle.messages.proofs.Granted.{is-held, has-room}
 use Rattle.messages.proofs.write_acknowledge.Goals as goal
-
-pub returns-then-element-answered : goal.returns-then-element-answered
-unfolding acknowledge_refusal acknowledge_after
-returns-then-element-answered c = rw c.if-element-answered.true (refl, refl)
-
-pub returns-then-to-lt8 : goal.returns-then-to-lt8
-unfolding acknowledge_refusal acknowledge_after
-returns-then-to-lt8 c = rw (c.if-element-answered.false, lt-ltb _ _ c.if-to-lt8.true) (refl, refl)
-
-pub overflow_cast-element : goal.overflow_cast-element
-overflow_cast-element c = record { fits = omega (arith, ltb-false 4095 c.args.element (neither (ltb 4095 c.args.element) (ltb 15 c.args.answered) c.if-element-answered.false).0) }
-
-pub put_head-requires : goal.put_head-requires
-put_head-requires c = (c.if-to-lt8.false, omega arith, ltb-false 4095 c.args.element (neither (ltb 4095 c.args.element) (ltb 15 c.args.answered) c.if-element-answered.false).0)
-
-pub overflow_cast-answered : goal.overflow_cast-answered
-overflow_cast-answered c = record { fits = omega (arith, ltb-false 15 c.args.answered (neither (ltb 4095 c.args.element) (ltb 15 c.args.answered) c.if-element-answered.false).1) }
-
-pub put_answer-requires : goal.put_answer-requires
-put_answer-requires c = (rw (c.put_head.ensures, length-sets c.args.to.now 0 (head_bytes acknowledge c.args.element c.args.ddi)) c.if-to-lt8.false, ltb-false 15 c.args.answered (neither (ltb 4095 c.args.element) (ltb 15 c.args.answered) c.if-element-answered.false).1)
 
 pub returns : goal.returns
 unfolding acknowledge_refusal acknowledge_after acknowledge_bytes
-returns c = rw (c.if-element-answered.false, le-ltb _ _ c.if-to-lt8.false) (refl, c.put_answer.ensures ∙ behind-head c.args.to.now c.put_head.new.to acknowledge c.args.element c.args.ddi (c.args.errors ∷ (240 + c.args.answered) ∷ 255 ∷ 255 ∷ []) c.put_head.ensures)
+returns c =
+    let a = c.args in
+    let e = is-held (ltb 4095 a.element) a.element c.in_ok-element.element c.in_ok-element.ensures in
+    let n = is-held (ltb 15 a.answered) a.answered c.in_ok-answered.field-0 c.in_ok-answered.ensures in
+    let r = has-room (ltb (length a.to.now) 8) c.in_ok-check_room.ensures in
+    let head : c.put_head.new.to ≡ sets a.to.now 0 (head_bytes acknowledge a.element a.ddi) = rw e.1 at c.put_head.ensures in
+    rw (e.0, n.0, r)
+    (refl, (rw n.1 at c.put_answer.ensures) ∙ behind-head a.to.now c.put_head.new.to acknowledge a.element a.ddi (a.errors ∷ (240 + a.answered) ∷ 255 ∷ 255 ∷ []) head)

@@ -1,36 +1,23 @@
 -- `pool_breaches::pass` meets its contract.
-use mathlib.Core.Path.{sym, ◌∙◌}
-use Prim.Native.Nat.{suc, ◌<◌}
-use native.Mathlib.Omega.{arith}
-use lib.ListN.{length}
-use Rattle.naming.proofs.Names.{names-divided}
+use mathlib.Core.Path.{sym, ap, ◌∙◌}
+use Rattle.records.specs.Layout.{kind_code}
+use Rattle.records.specs.declared.Kind.TheVariants.{Det}
+use Rattle.records.proofs.Codes.{code-tells}
 use Rattle.pool_breaches.proofs.Sighting.{sighted-other}
 use Rattle.pool_breaches.proofs.pass.Goals as goal
 
-pub record_kind-kind-requires : goal.record_kind-kind-requires
-record_kind-kind-requires c =
-    let a = c.args in
-    (names-divided a.p.now a.starts.now a.heads.now a.next.now c.requires.0, c.requires.1)
-
 pub pass_element-requires : goal.pass_element-requires
-pass_element-requires c =
-    let a = c.args in
-    let l : suc a.i < length a.starts.now = omega (arith, c.requires.1) in
-    (c.requires.0, c.requires.1, sym c.record_kind-kind.ensures ∙ c.if-kind-eq2.true, c.requires.3, c.requires.4, c.requires.5)
+pass_element-requires c = (c.requires.0, sym c.record_kind-kind.ensures ∙ ap kind_code c.in-Det.is, c.requires.1, c.requires.2)
 
-pub returns-then-kind-eq2 : goal.returns-then-kind-eq2
-returns-then-kind-eq2 c = c.pass_element.ensures
+pub invariant_of-put_other : goal.invariant_of-put_other
+invariant_of-put_other c =
+    record {
+      listed = c.requires.0;
+      told = c.record_kind-kind.ensures;
+      no_element = λ e. c.in_default.not-Det (code-tells c.record_kind-kind.result Det e);
+    }
 
-pub put_other-n-requires : goal.put_other-n-requires
-put_other-n-requires c =
+pub returns-in_default : goal.returns-in_default
+returns-in_default c =
     let a = c.args in
-    let l : suc a.i < length a.starts.now = omega (arith, c.requires.1) in
-    (c.requires.0, c.requires.6, c.requires.1, c.requires.2, c.record_kind-kind.ensures, c.if-kind-eq2.false, c.requires.5)
-
-pub returns : goal.returns
-returns c =
-    let a = c.args in
-    let l : suc a.i < length a.starts.now = omega (arith, c.requires.1) in (
-      record { puts = c.put_other-n.ensures.0; few = c.put_other-n.ensures.1 },
-      sighted-other a.p.now a.starts.now a.i a.passed.full a.numbers.now a.again.now a.endless.now c.requires.3 (λ e. c.if-kind-eq2.false (c.record_kind-kind.ensures ∙ e)),
-    )
+    (c.put_other.ensures, sighted-other a.pool.now.names.records a.i a.sight.now c.requires.1 (λ e. c.in_default.not-Det (code-tells c.record_kind-kind.result Det (c.record_kind-kind.ensures ∙ e))))

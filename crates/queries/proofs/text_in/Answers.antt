@@ -1,28 +1,27 @@
--- `queries::text_in` meets its contract: the kinds are tested one after the other.
-use borrow.Author.Tests.{ne_eqb}
+-- `queries::text_in` meets its contract: each arm is a case of the definition.
 use Rattle.queries.specs.Queries.{asked_text}
 use Rattle.queries.proofs.text_in.Goals as goal
 
-pub returns-then-kind-eq1 : goal.returns-then-kind-eq1
+pub returns-in-Some-Dvc : goal.returns-in-Some-Dvc
 unfolding asked_text
-returns-then-kind-eq1 c = rw (c.if-kind-eq1.true, c.device.ensures)
+returns-in-Some-Dvc c = rw (← c.mark.ensures, c.in-Some-Dvc.is, c.in-Some-Dvc.field-0-is, c.device.ensures)
 
-pub returns-then-kind-eq2 : goal.returns-then-kind-eq2
+pub returns-in-Some-Det : goal.returns-in-Some-Det
 unfolding asked_text
-returns-then-kind-eq2 c = rw (c.if-kind-eq2.true, c.device_element.ensures)
+returns-in-Some-Det c = rw (← c.mark.ensures, c.in-Some-Det.is, c.in-Some-Det.field-0-is, c.device_element.ensures)
 
-pub returns-then-kind-eq3 : goal.returns-then-kind-eq3
+pub returns-in-Some-Dpd : goal.returns-in-Some-Dpd
 unfolding asked_text
-returns-then-kind-eq3 c = rw (c.if-kind-eq3.true, c.process_data.ensures)
+returns-in-Some-Dpd c = rw (← c.mark.ensures, c.in-Some-Dpd.is, c.in-Some-Dpd.field-0-is, c.process_data.ensures)
 
-pub returns-then-kind-eq4 : goal.returns-then-kind-eq4
+pub returns-in-Some-Dpt : goal.returns-in-Some-Dpt
 unfolding asked_text
-returns-then-kind-eq4 c = rw (c.if-kind-eq4.true, c.property.ensures)
+returns-in-Some-Dpt c = rw (← c.mark.ensures, c.in-Some-Dpt.is, c.in-Some-Dpt.field-0-is, c.property.ensures)
 
-pub returns-then-kind-eq5 : goal.returns-then-kind-eq5
+pub returns-in-Some-Dvp : goal.returns-in-Some-Dvp
 unfolding asked_text
-returns-then-kind-eq5 c = rw (c.if-kind-eq5.true, c.value_presentation.ensures)
+returns-in-Some-Dvp c = rw (← c.mark.ensures, c.in-Some-Dvp.is, c.in-Some-Dvp.field-0-is, c.value_presentation.ensures)
 
-pub returns : goal.returns
+pub returns-in-None : goal.returns-in-None
 unfolding asked_text
-returns c = rw (ne_eqb c.args.kind 1 c.if-kind-eq1.false, ne_eqb c.args.kind 2 c.if-kind-eq2.false, ne_eqb c.args.kind 3 c.if-kind-eq3.false, ne_eqb c.args.kind 4 c.if-kind-eq4.false, ne_eqb c.args.kind 5 c.if-kind-eq5.false)
+returns-in-None c = rw (← c.mark.ensures, c.in-None.is)

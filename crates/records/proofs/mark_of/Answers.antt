@@ -22,48 +22,48 @@ unfolding mark_of mark
 returns-then-a-ne68 c =
     rw (ne_eqb c.args.a 68 c.if-a-ne68.true)
 
-pub returns-then-letters-eq17488 : goal.returns-then-letters-eq17488
+pub returns-in-17488 : goal.returns-in-17488
 unfolding mark_of mark
-returns-then-letters-eq17488 c =
+returns-in-17488 c =
     let a = c.args in
-    let second : a.b ≡ 80 = omega (arith, c.if-letters-eq17488.true) in
-    let third : a.c ≡ 68 = omega (arith, c.if-letters-eq17488.true) in
+    let second : a.b ≡ 80 = omega (arith, c.in-17488.is) in
+    let third : a.c ≡ 68 = omega (arith, c.in-17488.is) in
     rw (c.if-a-ne68.false, second, third)
 
-pub returns-then-letters-eq21584 : goal.returns-then-letters-eq21584
+pub returns-in-21584 : goal.returns-in-21584
 unfolding mark_of mark
-returns-then-letters-eq21584 c =
+returns-in-21584 c =
     let a = c.args in
-    let second : a.b ≡ 80 = omega (arith, c.if-letters-eq21584.true) in
-    let third : a.c ≡ 84 = omega (arith, c.if-letters-eq21584.true) in
+    let second : a.b ≡ 80 = omega (arith, c.in-21584.is) in
+    let third : a.c ≡ 84 = omega (arith, c.in-21584.is) in
     rw (c.if-a-ne68.false, second, third)
 
-pub returns-then-letters-eq21573 : goal.returns-then-letters-eq21573
+pub returns-in-21573 : goal.returns-in-21573
 unfolding mark_of mark
-returns-then-letters-eq21573 c =
+returns-in-21573 c =
     let a = c.args in
-    let second : a.b ≡ 69 = omega (arith, c.if-letters-eq21573.true) in
-    let third : a.c ≡ 84 = omega (arith, c.if-letters-eq21573.true) in
+    let second : a.b ≡ 69 = omega (arith, c.in-21573.is) in
+    let third : a.c ≡ 84 = omega (arith, c.in-21573.is) in
     rw (c.if-a-ne68.false, second, third)
 
-pub returns-then-letters-eq20566 : goal.returns-then-letters-eq20566
+pub returns-in-20566 : goal.returns-in-20566
 unfolding mark_of mark
-returns-then-letters-eq20566 c =
+returns-in-20566 c =
     let a = c.args in
-    let second : a.b ≡ 86 = omega (arith, c.if-letters-eq20566.true) in
-    let third : a.c ≡ 80 = omega (arith, c.if-letters-eq20566.true) in
+    let second : a.b ≡ 86 = omega (arith, c.in-20566.is) in
+    let third : a.c ≡ 80 = omega (arith, c.in-20566.is) in
     rw (c.if-a-ne68.false, second, third)
 
-pub returns-then-letters-eq17238 : goal.returns-then-letters-eq17238
+pub returns-in-17238 : goal.returns-in-17238
 unfolding mark_of mark
-returns-then-letters-eq17238 c =
+returns-in-17238 c =
     let a = c.args in
-    let second : a.b ≡ 86 = omega (arith, c.if-letters-eq17238.true) in
-    let third : a.c ≡ 67 = omega (arith, c.if-letters-eq17238.true) in
+    let second : a.b ≡ 86 = omega (arith, c.in-17238.is) in
+    let third : a.c ≡ 67 = omega (arith, c.in-17238.is) in
     rw (c.if-a-ne68.false, second, third)
 
-pub returns : goal.returns
+pub returns-in_default : goal.returns-in_default
 unfolding mark_of mark
-returns c =
+returns-in_default c =
     let a = c.args in
-    rw (c.if-a-ne68.false, apart a.b a.c 86 67 c.if-letters-eq17238.false, apart a.b a.c 69 84 c.if-letters-eq21573.false, apart a.b a.c 80 68 c.if-letters-eq17488.false, apart a.b a.c 80 84 c.if-letters-eq21584.false, apart a.b a.c 86 80 c.if-letters-eq20566.false)
+    rw (c.if-a-ne68.false, apart a.b a.c 86 67 (λ e. omega (arith, e)), apart a.b a.c 69 84 (λ e. omega (arith, e)), apart a.b a.c 80 68 (λ e. omega (arith, e)), apart a.b a.c 80 84 (λ e. omega (arith, e)), apart a.b a.c 86 80 (λ e. omega (arith, e)))

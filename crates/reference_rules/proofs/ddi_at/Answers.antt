@@ -7,18 +7,18 @@ use Rattle.reference_rules.proofs.Tags.{ddi-read}
 use Rattle.reference_rules.proofs.ddi_at.Goals as goal
 
 pub overflow_sub-number : goal.overflow_sub-number
-overflow_sub-number c = let some : (c.args.number ≡ 0 → ⊥) = c.requires.1 in omega arith
+overflow_sub-number c = let some : (c.args.number ≡ 0 → ⊥) = c.requires.0 in omega arith
 
-pub overflow_cast-starts : goal.overflow_cast-starts
-overflow_cast-starts c = omega (arith, c.shared_slice_known-3-1.given (c.args.number - 1))
+pub overflow_add-records : goal.overflow_add-records
+overflow_add-records c =
+    let some : (c.args.number ≡ 0 → ⊥) = c.requires.0 in
+    let records = c.args.records.now in
+    omega (arith, starts-within records.pool.now records.starts.now records.divided (c.args.number - 1) (omega (arith, c.requires.1)), records.divided.short)
 
-pub overflow_add-starts : goal.overflow_add-starts
-overflow_add-starts c = omega (arith, c.shared_slice_known-3-1.given (c.args.number - 1))
-
-pub pair-requires : goal.pair-requires
-pair-requires c =
-    let some : (c.args.number ≡ 0 → ⊥) = c.requires.1 in
-    omega (arith, starts-within c.args.p.now c.args.starts.now c.requires.0 (c.args.number - 1) (omega (arith, c.requires.2)))
+pub within-requires : goal.within-requires
+within-requires c =
+    let some : (c.args.number ≡ 0 → ⊥) = c.requires.0 in
+    omega (arith, starts-within c.args.records.now.pool.now c.args.records.now.starts.now c.args.records.now.divided (c.args.number - 1) (omega (arith, c.requires.1)))
 
 pub returns : goal.returns
-returns c = c.pair.ensures ∙ ddi-read c.args.p.now c.args.starts.now c.args.number c.requires.1 c.requires.2
+returns c = c.within.ensures ∙ ddi-read c.args.records.now.pool.now c.args.records.now.starts.now c.args.number c.requires.0 c.requires.1

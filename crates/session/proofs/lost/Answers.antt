@@ -9,4 +9,4 @@ returns-then-is_impossible c = rw (sym c.is_impossible.ensures ∙ c.if-is_impos
 
 pub returns : goal.returns
 unfolding lost_of
-returns c = rw (sym c.is_impossible.ensures ∙ c.if-is_impossible.false)
+returns c = rw (sym c.is_impossible.ensures ∙ c.if-is_impossible.false, c.end_stage.ensures)

@@ -13,5 +13,5 @@ unfolding number_in
 returns c e k h reach =
     let a = c.args in
     let pre = c.requires in
-    single 8 a.p.now a.at (a.reach - 7) pre.0 (λ (j : ℕ). (c.shared_slice_known-1.given j).fits) (omega arith)
-    (ap₂ bit_and (ap₂ bit_and (sym c.word.ensures) (reaches-8 a.reach pre.1)) highs-8 ∙ eqb-true _ 0 e) k h (omega arith)
+    single 8 a.p.now a.at (a.reach - 7) pre.0 (λ (j : ℕ). (c.type_inv.p j).fits) (omega arith)
+    (ap₂ bit_and (ap₂ bit_and (sym c.within.ensures) (reaches-8 a.reach pre.1)) highs-8 ∙ eqb-true _ 0 e) k h (omega arith)

@@ -12,13 +12,7 @@ returns-then-from-to c =
     let a = c.args in
     let n = a.to - a.from in
     let s = drop a.from a.p.now in
-    sym (sound-single (take n s) 0x7F (bytes_of a.p.now a.from n (λ k l. absurd (omega (arith, l, c.if-from-to.true)))) (omega arith) (omega (arith, length-take n s, c.if-from-to.true)))
-
-pub overflow_sub-to : goal.overflow_sub-to
-overflow_sub-to c = omega (arith, (c.has_window.ensures c.if-has_window.true).0)
-
-pub is_single-requires : goal.is_single-requires
-is_single-requires c = let w = c.has_window.ensures c.if-has_window.true in (w.2, w.1)
+    sym (sound-single (take n s) (bytes_of a.p.now a.from n (λ k l. absurd (omega (arith, l, c.if-from-to.true)))) (omega (arith, length-take n s, c.if-from-to.true)))
 
 pub returns-then-is_single : goal.returns-then-is_single
 returns-then-is_single c =
@@ -26,4 +20,4 @@ returns-then-is_single c =
     let n = a.to - a.from in
     let s = drop a.from a.p.now in
     let w = c.has_window.ensures c.if-has_window.true in
-    sym (sound-single (take n s) 0x7F (bytes_of a.p.now a.from n (c.is_single.ensures c.if-is_single.true)) (omega arith) (omega (arith, length-take n s, w.1)))
+    sym (sound-single (take n s) (bytes_of a.p.now a.from n (c.is_single.ensures c.if-is_single.true)) (omega (arith, length-take n s, w.1)))

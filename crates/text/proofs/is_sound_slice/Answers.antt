@@ -1,10 +1,10 @@
 -- `text::is_sound_slice` meets its contract.
 use mathlib.Core.Path.{refl, sym, ◌∙◌}
-use Rattle.text.proofs.Examining.{sound-marked, sound-counted, sound-single}
+use Rattle.text.proofs.Examining.{sound-marked, sound-counted, sound-ascii}
 use Rattle.text.proofs.is_sound_slice.Goals as goal
 
-pub returns-then-highest-lt128 : goal.returns-then-highest-lt128
-returns-then-highest-lt128 c = sym (sound-single c.args.s.now c.highest.result c.highest.ensures c.if-highest-lt128.true c.if-s-le32.true)
+pub returns-then-is_ascii : goal.returns-then-is_ascii
+returns-then-is_ascii c = sym (sound-ascii c.args.s.now c.if-is_ascii.ensures.cases c.if-s-le-MOST.true)
 
 pub returns-then-is_marked : goal.returns-then-is_marked
 returns-then-is_marked c = sym (sound-marked c.args.s.now (sym c.is_marked.ensures ∙ c.if-is_marked.true))

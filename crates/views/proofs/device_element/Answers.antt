@@ -3,4 +3,4 @@ use Rattle.views.proofs.Views.{element-view}
 use Rattle.views.proofs.device_element.Goals as goal
 
 pub returns : goal.returns
-returns c = element-view c.args.p.now c.args.at _ _ _ _ _ c.read_u8-element_type.ensures c.text-designator.ensures.0 c.read_u16-number.ensures c.read_u16-parent.ensures c.read_u16-entries.ensures
+returns c = element-view c.args.p.now c.args.at _ _ _ _ _ c.read_u8-element_type.ensures c.text-designator.ensures.0 c.read-number.ensures c.read-parent.ensures c.read-entries.ensures

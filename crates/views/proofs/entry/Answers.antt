@@ -1,6 +1,6 @@
 -- `views::entry` meets its contract.
-use Rattle.views.proofs.Views.{entry-view}
+use mathlib.Core.Path.{sym, ◌∙◌}
 use Rattle.views.proofs.entry.Goals as goal
 
 pub returns : goal.returns
-returns c = entry-view c.args.p.now c.args.at _ c.args.i _ c.text-designator.ensures.0 c.read_u16.ensures
+returns c = c.read.ensures ∙ sym (c.entries_from.ensures.0 c.args.i)

@@ -3,4 +3,4 @@ use Rattle.views.proofs.Views.{process-data-view}
 use Rattle.views.proofs.process_data.Goals as goal
 
 pub returns : goal.returns
-returns c = process-data-view c.args.p.now c.args.at _ _ _ _ _ c.read_u16-ddi.ensures c.read_u8-properties.ensures c.read_u8-triggers.ensures c.text-designator.ensures.0 c.read_u16-presentation.ensures
+returns c = process-data-view c.args.p.now c.args.at _ _ _ _ _ c.read-ddi.ensures c.read_u8-properties.ensures c.read_u8-triggers.ensures c.text-designator.ensures.0 c.read-presentation.ensures

@@ -6,4 +6,4 @@ use Rattle.views.proofs.Views.{property-view}
 use Rattle.views.proofs.property.Goals as goal
 
 pub returns : goal.returns
-returns c = property-view c.args.p.now c.args.at _ _ _ _ c.read_u16-ddi.ensures (to_z-of_z w32 c.read_i32-value.result (record { sfits = c.read_i32-value.type_inv }) ∙ c.read_i32-value.ensures) c.text-designator.ensures.0 c.read_u16-presentation.ensures
+returns c = property-view c.args.p.now c.args.at _ _ _ _ c.read-ddi.ensures (to_z-of_z w32 c.read-value.result (record { sfits = c.read-value.type_inv }) ∙ c.read-value.ensures) c.text-designator.ensures.0 c.read-presentation.ensures

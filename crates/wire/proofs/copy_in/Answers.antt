@@ -8,20 +8,17 @@ use Rattle.wire.proofs.Laid.{lay_step}
 use Rattle.wire.proofs.copy_in.Goals as goal
 
 pub loop-i-init : goal.loop-i-init
-loop-i-init c = (omega arith, refl, rw add-zero)
+loop-i-init c = (refl, rw add-zero)
 
 pub loop-i-preserved : goal.loop-i-preserved
 loop-i-preserved c =
     let a = c.args in
     let l = c.loop-i in
-    (omega arith, simp length-set l.invariant.1, sym (lay_step l.to a.from.now a.at l.i c.loop-i-test.true) ∙ l.invariant.2)
-
-pub shape_of-to : goal.shape_of-to
-shape_of-to c = c.loop-i.invariant.1
+    (simp length-set l.invariant.0, sym (lay_step l.to a.from.now a.at l.i (omega arith)) ∙ l.invariant.1)
 
 pub returns : goal.returns
 returns c =
     let a = c.args in
     let l = c.loop-i in
-    let z : drop l.i a.from.now ≡ [] = drop_of_length-le a.from.now {i = l.i} c.loop-i-test.false in
-    rw z at l.invariant.2
+    let z : drop l.i a.from.now ≡ [] = drop_of_length-le a.from.now {i = l.i} (omega arith) in
+    rw z at l.invariant.1

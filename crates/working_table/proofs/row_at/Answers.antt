@@ -9,4 +9,4 @@ overflow_sub-result c = let s = c in rw (add-one s.args.i) s.requires.rises
 
 pub returns : goal.returns
 unfolding row_in id_of
-returns c = rw (c.kind_number.ensures, c.pair.ensures, c.parent_id.ensures, add-one c.args.i)
+returns c = rw (c.kind_number.ensures, c.within.ensures, c.parent_id.ensures, add-one c.args.i)

@@ -1,31 +1,21 @@
 -- `faults::objects::name_objects` meets its contract.
-use mathlib.Core.Path.{◌∙◌}
-use native.Mathlib.Omega.{arith}
-use lib.ListN.{length}
+use mathlib.Core.Path.{ap, ◌∙◌}
+use mathlib.Core.List.{List, ◌++◌}
+use Prim.Native.Nat.{ℕ, ◌*◌}
+use lib.ListN.{length, drop}
 use Rattle.pool.specs.Walk.{entries_of}
-use Rattle.faults.proofs.Completing.{completed, fitting-all, fitting-some, fitting-below}
+use Rattle.faults.specs.Faults.{width}
+use Rattle.faults.proofs.Completing.{completed, fitting, fitting-below, below-in-part}
 use Rattle.faults.proofs.objects.name_objects.Goals as goal
 
-pub name_first-requires : goal.name_first-requires
-name_first-requires c =
-    let s = c in
-    let u = s.requires.1 in
-    (s.requires.0, fitting-below (length s.args.starts.now) s.args.buffer.now s.args.found _ u (fitting-all u.before u.faults s.args.buffer.now s.args.found u.laid c.if-found-room.true))
-
-pub returns-then-found-room : goal.returns-then-found-room
-returns-then-found-room c before fs l =
+pub name_all-requires : goal.name_all-requires
+name_all-requires c =
     let a = c.args in
-    c.name_first.ensures
-    ∙ completed (entries_of a.p.now a.starts.now) before fs a.buffer.now _ l.0 (fitting-all before fs a.buffer.now a.found l c.if-found-room.true)
-
-pub name_first-requires-2 : goal.name_first-requires-2
-name_first-requires-2 c =
-    let s = c in
-    let u = s.requires.1 in
-    (s.requires.0, fitting-below (length s.args.starts.now) s.args.buffer.now s.args.found _ u (fitting-some u.before u.faults s.args.buffer.now s.args.found u.laid (omega (arith, c.if-found-room.false))))
+    let u = c.requires.1 in
+    below-in-part _ a.buffer.now _ (fitting-below (length a.starts.now) a.buffer.now a.found _ u (c.min.ensures ∙ fitting u.before u.faults a.buffer.now a.found u.laid))
 
 pub returns : goal.returns
 returns c before fs l =
     let a = c.args in
-    c.name_first-2.ensures
-    ∙ completed (entries_of a.p.now a.starts.now) before fs a.buffer.now _ l.0 (fitting-some before fs a.buffer.now a.found l (omega (arith, c.if-found-room.false)))
+    ap (λ (xs : List ℕ). xs ++ drop (c.min.result * width) a.buffer.now) c.name_all.ensures
+    ∙ completed (entries_of a.p.now a.starts.now) before fs a.buffer.now _ l.0 (c.min.ensures ∙ fitting before fs a.buffer.now a.found l)

@@ -1,16 +1,23 @@
 -- `record_breaches::look::is_clear_other` meets its contract.
-use mathlib.Core.Path.{sym, ◌∙◌}
-use Rattle.rules.proofs.Truth.{untrue}
+use mathlib.Core.Path.{refl, ap}
+use mathlib.Core.Logic.{inl, inr}
+use Rattle.records.specs.Layout.{kind_code}
 use Rattle.record_breaches.proofs.look.is_clear_other.Goals as goal
 
-pub returns-then-kind-eq3 : goal.returns-then-kind-eq3
-returns-then-kind-eq3 c t = c.is_clear_data.ensures t (sym c.requires.3 ∙ c.if-kind-eq3.true)
+pub is_clear_presented-requires : goal.is_clear_presented-requires
+is_clear_presented-requires c = inl (ap kind_code c.in-Dpd.is, refl)
 
-pub returns-then-kind-eq4 : goal.returns-then-kind-eq4
-returns-then-kind-eq4 c t = c.is_clear_property.ensures t (sym c.requires.3 ∙ c.if-kind-eq4.true)
+pub is_clear_presented-requires-in-Dpt : goal.is_clear_presented-requires-in-Dpt
+is_clear_presented-requires-in-Dpt c = inr (ap kind_code c.in-Dpt.is, refl)
 
-pub returns-then-kind-eq5 : goal.returns-then-kind-eq5
-returns-then-kind-eq5 c t = c.is_clear_value.ensures t (sym c.requires.3 ∙ c.if-kind-eq5.true)
+pub is_clear_value-requires : goal.is_clear_value-requires
+is_clear_value-requires c = ap kind_code c.in-Dvp.is
 
-pub returns : goal.returns
-returns c t = untrue t
+pub returns-in-Dpd : goal.returns-in-Dpd
+returns-in-Dpd c t = c.is_clear_presented.ensures t
+
+pub returns-in-Dpt : goal.returns-in-Dpt
+returns-in-Dpt c t = c.is_clear_presented-in-Dpt.ensures t
+
+pub returns-in-Dvp : goal.returns-in-Dvp
+returns-in-Dvp c t = c.is_clear_value.ensures t

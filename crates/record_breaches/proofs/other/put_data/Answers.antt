@@ -1,7 +1,6 @@
 -- `record_breaches::other::put_data` meets its contract.
-use native.Mathlib.Omega.{arith}
-use Rattle.faults.proofs.Emission.{puts_then}
+use Rattle.faults.proofs.Adding.{adds_then}
 use Rattle.record_breaches.proofs.other.put_data.Goals as goal
 
 pub returns : goal.returns
-returns c = rw (← c.process_data-d.ensures) (puts_then c.put_data-own.ensures.0 c.put_presented.ensures.0, omega (arith, c.put_data-own.ensures.1, c.put_presented.ensures.1))
+returns c = rw (← c.process_data-d.ensures) (adds_then c.put_data.ensures c.put_presented.ensures)

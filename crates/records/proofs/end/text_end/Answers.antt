@@ -1,14 +1,16 @@
 -- `records::end::text_end` meets its contract.
 use mathlib.Core.Path.{sym}
-use native.Mathlib.Omega.{arith}
-use borrow.Author.Tests.{le-leb, lt-leb, lt-ltb, le-ltb}
+use borrow.Author.Tests.{le-leb, lt-ltb}
+use Rattle.records.specs.Extents.{field_end}
+use Rattle.records.proofs.Ends.{text-missing, text-over}
 use Rattle.records.proofs.end.text_end.Goals as goal
 
-pub returns-then-p-at : goal.returns-then-p-at
-returns-then-p-at c = (sym (rw (le-ltb _ _ c.if-p-at.true)), omega arith)
+pub returns-then-p-at-clause-exact : goal.returns-then-p-at-clause-exact
+returns-then-p-at-clause-exact c = sym (text-missing _ _ _ c.if-p-at.true)
 
-pub returns-then-limit-n : goal.returns-then-limit-n
-returns-then-limit-n c = (sym (rw (lt-ltb _ _ c.if-p-at.false, lt-leb _ _ c.if-limit-n.true)), omega arith)
+pub returns-then-limit-size-clause-exact : goal.returns-then-limit-size-clause-exact
+returns-then-limit-size-clause-exact c = sym (text-over _ _ _ c.if-p-at.false c.if-limit-size.true)
 
-pub returns : goal.returns
-returns c = (sym (rw (lt-ltb _ _ c.if-p-at.false, le-leb _ _ c.if-limit-n.false)), omega (arith, c.shared_slice_known-1.given c.args.at, c.if-p-at.false))
+pub returns-clause-exact : goal.returns-clause-exact
+unfolding field_end
+returns-clause-exact c = rw (lt-ltb _ _ c.if-p-at.false, le-leb _ _ c.if-limit-size.false) c.end_within.ensures.exact

@@ -1,38 +1,35 @@
 -- `records::end::text_within` meets its contract.
-use mathlib.Core.Path.{◌≡◌, sym, ap, ◌∙◌}
-use Prim.Native.Nat.{◌+◌, ◌≤◌, ◌<◌}
+use mathlib.Core.Path.{refl, sym, ap, ◌∙◌}
+use mathlib.Core.List.{[], ◌∷◌}
+use Prim.Native.Nat.{◌+◌, ◌<◌}
 use native.Mathlib.Omega.{arith}
-use borrow.Author.Tests.{le-leb, lt-leb, lt-ltb}
 use lib.ListN.{length, get_or}
-use Rattle.records.specs.Layout.{fixed}
-use Rattle.records.specs.Late.{late_next, closed}
-use Rattle.records.specs.declared.Extent.TheVariants.{Ends}
+use Rattle.std.specs.Prelude.{Err}
+use Rattle.records.specs.Layout.{fixed, text}
+use Rattle.records.proofs.Ends.{fixed-cut, fixed-tested}
+use Rattle.records.proofs.Untested.{past-fixed, past-text, over-first, short}
 use Rattle.records.proofs.end.text_within.Goals as goal
 
 pub returns-then-p-least : goal.returns-then-p-least
 returns-then-p-least c =
     let a = c.args in
-    c.close.ensures ∙ ap (closed a.p.now) (c.skip.ensures.0 a.p.now ∙ ap (late_next (fixed a.m) a.p.now) c.text_behind-e.ensures.0)
+    let text_at = a.at + a.n in
+    ap Err c.short_flaw.ensures
+    ∙ short a.limit (fixed a.m) [] a.p.now text_at (λ h k. fixed-cut a.m a.p.now (text_at + 1 + get_or a.p.now text_at 0) (omega (arith, c.if-p-least.true)))
+    ∙ sym (past-fixed a.n (text a.limit) (fixed a.m ∷ []) a.p.now a.at text_at refl)
 
 pub returns-then-limit-size : goal.returns-then-limit-size
 returns-then-limit-size c =
     let a = c.args in
-    let here : a.at + a.n < length a.p.now = omega (arith, c.if-p-least.false) in
-    sym (rw (lt-ltb _ _ here, lt-leb _ _ c.if-limit-size.true))
-
-pub returns-then-p-end : goal.returns-then-p-end
-returns-then-p-end c =
-    let a = c.args in
-    let size = get_or a.p.now (a.at + a.n) 0 in
-    let here : a.at + a.n < length a.p.now = omega (arith, c.if-p-least.false) in
-    let past : length a.p.now < a.at + a.n + 1 + size + a.m = omega (arith, c.if-p-end.true) in
-    sym (rw (lt-ltb _ _ here, le-leb _ _ c.if-limit-size.false, lt-leb _ _ past))
+    let text_at = a.at + a.n in
+    let here : text_at < length a.p.now = omega (arith, c.if-p-least.false) in
+    sym (past-fixed a.n (text a.limit) (fixed a.m ∷ []) a.p.now a.at text_at refl ∙ over-first a.limit (fixed a.m ∷ []) a.p.now text_at here c.if-limit-size.true)
 
 pub returns : goal.returns
 returns c =
     let a = c.args in
-    let size = get_or a.p.now (a.at + a.n) 0 in
-    let here : a.at + a.n < length a.p.now = omega (arith, c.if-p-least.false) in
-    let within : a.at + a.n + 1 + size + a.m ≤ length a.p.now = omega (arith, c.if-p-end.false) in
-    let end : a.at + a.n + 1 + a.m + size ≡ a.at + a.n + 1 + size + a.m = omega arith in
-    ap Ends end ∙ sym (rw (lt-ltb _ _ here, le-leb _ _ c.if-limit-size.false, le-leb _ _ within))
+    let text_at = a.at + a.n in
+    let here : text_at < length a.p.now = omega (arith, c.if-p-least.false) in
+    c.end_within.ensures.exact
+    ∙ fixed-tested a.m a.p.now (text_at + 1 + get_or a.p.now text_at 0) _ (omega arith)
+    ∙ sym (past-fixed a.n (text a.limit) (fixed a.m ∷ []) a.p.now a.at text_at refl ∙ past-text a.limit (fixed a.m) [] a.p.now text_at here c.if-limit-size.false)

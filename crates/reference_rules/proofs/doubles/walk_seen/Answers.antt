@@ -1,130 +1,73 @@
 -- `reference_rules::doubles::walk_seen` meets its contract: the walk over the entries, and inside it the walk over the DDIs kept.
 use mathlib.Core.Path.{◌≡◌, refl, sym, ap, ◌∙◌, subst}
 use mathlib.Core.List.{[], ◌∷◌}
-use Prim.Native.Nat.{ℕ, ◌+◌, ◌-◌}
+use Prim.Native.Nat.{ℕ, ◌+◌, ◌-◌, ◌<◌}
 use native.Mathlib.Omega.{arith}
-use Rattle.pool.specs.Walk.{entries_of}
 use Rattle.faults.specs.Rows.{many}
-use Rattle.faults.specs.Emission.{Puts}
-use Rattle.faults.proofs.Emission.{puts-few, puts-length}
-use Rattle.naming.specs.Naming.{named, tag_of}
-use Rattle.naming.proofs.Names.{names-divided, named-inside}
+use Rattle.faults.specs.Adding.{Adds}
+use Rattle.faults.specs.declared.FaultList.{FaultList}
+use lib.Seq.{get_or-take, length-take-le}
+use Rattle.naming.specs.Naming.{tag_of}
 use Rattle.rules.specs.Table.{doubled}
-use Rattle.reference_rules.specs.Lists.{entry_tag}
-use Rattle.reference_rules.proofs.Seen.{holds-none, holds-here, holds-one, holds-nowhere}
+use Rattle.reference_rules.specs.Entries.{around, tag_in}
+use Rattle.reference_rules.proofs.Listed.{entry-inside}
+use Rattle.reference_rules.proofs.Seen.{holds-none, holds-nowhere, among_kept}
 use Rattle.reference_rules.proofs.Walking.{walk_start, walk-plain, walk-met, walk-new}
 use Rattle.reference_rules.proofs.doubles.walk_seen.Goals as goal
 
 pub entries-init : goal.entries-init
 entries-init c =
     let a = c.args in
-    walk_start (entry_tag a.p.now (entries_of a.p.now a.starts.now) a.at) a.number a.size a.seen.now a.faults.now a.count
-
-pub overflow_mul-m : goal.overflow_mul-m
-overflow_mul-m c = omega (arith, c.entries-test.true, c.requires.2)
-
-pub overflow_add-from : goal.overflow_add-from
-overflow_add-from c = omega (arith, c.entries-test.true, c.requires.2, c.entries_from-from.ensures.1)
-
-pub named_at-named-requires : goal.named_at-named-requires
-named_at-named-requires c = c.requires.0
+    walk_start (tag_in a.list.now) a.number a.list.now.size a.seen.now a.faults.now
 
 pub tag_at-tag-requires : goal.tag_at-tag-requires
-tag_at-tag-requires c =
-    let a = c.args in
-    (names-divided a.p.now a.starts.now a.heads.now a.next.now c.requires.0, rw c.named_at-named.ensures (named-inside a.p.now a.starts.now a.heads.now a.next.now c.requires.0 c.read_u16.result))
-
-pub overflow_add-m : goal.overflow_add-m
-overflow_add-m c = omega (arith, c.entries-test.true, c.requires.2)
-
-pub entries-smaller-then-tag-eq0 : goal.entries-smaller-then-tag-eq0
-entries-smaller-then-tag-eq0 c = omega (arith, c.entries-test.true, c.requires.2)
+tag_at-tag-requires c = rw c.named_at.ensures (entry-inside c.args.list.now c.entries.m)
 
 pub entries-preserved-then-tag-eq0 : goal.entries-preserved-then-tag-eq0
 entries-preserved-then-tag-eq0 c =
     let a = c.args in
     let v = c.entries in
-    let es = entries_of a.p.now a.starts.now in
-    let is = c.tag_at-tag.ensures.0 ∙ ap (tag_of a.p.now es) (c.named_at-named.ensures ∙ ap (named es) (c.read_u16.ensures ∙ sym (c.entries_from-from.ensures.0 v.m))) in
-    walk-plain (entry_tag a.p.now es a.at) a.number a.size a.seen.now a.faults.now a.count v.seen v.faults v.n v.kept v.m c.entries-test.true v.invariant (sym is ∙ c.if-tag-eq0.true)
+    let list = a.list.now in
+    let is = c.tag_at-tag.ensures.0 ∙ ap (tag_of list.names.records.pool.now (around list)) c.named_at.ensures in
+    walk-plain (tag_in a.list.now) a.number a.list.now.size a.seen.now a.faults.now v.seen v.faults v.kept v.m c.entries-test.true v.invariant (sym is ∙ c.if-tag-eq0.true)
 
-pub overflow_sub-ddi : goal.overflow_sub-ddi
-overflow_sub-ddi c = omega (arith, c.if-tag-eq0.false)
+pub loop-known-init : goal.loop-known-init
+loop-known-init c = (refl, holds-none)
 
-pub overflow_cast-ddi : goal.overflow_cast-ddi
-overflow_cast-ddi c = omega (arith, c.if-tag-eq0.false, c.tag_at-tag.ensures.1)
+pub put_if-requires : goal.put_if-requires
+put_if-requires c = omega (arith, ap (λ (f : FaultList). f.count) c.loop-known.invariant.0, c.entries.invariant.adds.few, c.entries.invariant.within, c.args.list.now.few, c.requires.1)
 
-pub loop-k-init : goal.loop-k-init
-loop-k-init c = (refl, refl, omega arith, holds-none)
-
-pub offset_bounds-seen-k : goal.offset_bounds-seen-k
-offset_bounds-seen-k c = omega (arith, c.loop-k-test.true, c.entries.invariant.few, c.entries.invariant.within, c.requires.2)
-
-pub bounds-seen-k : goal.bounds-seen-k
-bounds-seen-k c = omega (arith, c.loop-k-test.true, c.entries.invariant.few, c.entries.invariant.within, c.entries.invariant.long, c.requires.1)
-
-pub overflow_add-m-then-seen-k : goal.overflow_add-m-then-seen-k
-overflow_add-m-then-seen-k c = omega (arith, c.entries-test.true, c.requires.2)
-
-pub overflow_cast-m : goal.overflow_cast-m
-overflow_cast-m c = omega (arith, c.entries-test.true, c.requires.2)
-
-pub put_if-n-requires : goal.put_if-n-requires
-put_if-n-requires c = omega (arith, c.loop-k.invariant.1, puts-few c.entries.invariant.puts, c.entries.invariant.within, c.requires.2, c.requires.3)
-
-pub entries-smaller-then-seen-k : goal.entries-smaller-then-seen-k
-entries-smaller-then-seen-k c = omega (arith, c.entries-test.true, c.requires.2)
-
-pub entries-preserved-then-seen-k : goal.entries-preserved-then-seen-k
-entries-preserved-then-seen-k c =
+pub entries-preserved-then-known-ddi : goal.entries-preserved-then-known-ddi
+entries-preserved-then-known-ddi c =
     let a = c.args in
     let v = c.entries in
-    let l = c.loop-k in
-    let es = entries_of a.p.now a.starts.now in
-    let is = c.tag_at-tag.ensures.0 ∙ ap (tag_of a.p.now es) (c.named_at-named.ensures ∙ ap (named es) (c.read_u16.ensures ∙ sym (c.entries_from-from.ensures.0 v.m))) in
-    walk-met (entry_tag a.p.now es a.at) a.number a.size a.seen.now a.faults.now a.count v.seen v.faults v.n v.kept v.m c.entries-test.true v.invariant l.k (l.k + 1) (c.tag_at-tag.result - 1) (1 + (v.m + 1)) _ _ (omega (arith, is, c.if-tag-eq0.false)) (omega (arith, c.loop-k-test.true)) (holds-here c.if-seen-k.true) (omega arith) (rw (← l.invariant.0, ← l.invariant.1) c.put_if-n.ensures.0)
+    let l = c.loop-known in
+    let list = a.list.now in
+    let is = c.tag_at-tag.ensures.0 ∙ ap (tag_of list.names.records.pool.now (around list)) c.named_at.ensures in
+    let long = length-take-le v.kept v.seen (omega (arith, c.entries-test.true, v.invariant.few, v.invariant.long, c.requires.0)) in
+    let before : l.known-index < v.kept = omega (arith, c.loop-known-test.true, long) in
+    walk-met (tag_in list) a.number list.size a.seen.now a.faults.now v.seen v.faults v.kept v.m c.entries-test.true v.invariant (c.tag_at-tag.result - 1) (2 + v.m) _ (omega (arith, is, c.if-tag-eq0.false)) (record { at = l.known-index; before = before; is = sym (get_or-take v.kept v.seen l.known-index 0 before) ∙ c.if-known-ddi.true }) (omega arith) (rw (← l.invariant.0) c.put_if.ensures)
 
-pub overflow_add-k : goal.overflow_add-k
-overflow_add-k c = omega (arith, c.loop-k-test.true, c.entries.invariant.few, c.entries.invariant.within, c.requires.2)
-
-pub loop-k-smaller : goal.loop-k-smaller
-loop-k-smaller c = omega (arith, c.loop-k-test.true)
-
-pub loop-k-preserved : goal.loop-k-preserved
-loop-k-preserved c = (c.loop-k.invariant.0, c.loop-k.invariant.1, omega (arith, c.loop-k-test.true), holds-nowhere c.loop-k.invariant.3 (λ h. c.if-seen-k.false (holds-one h)))
-
-pub offset_bounds-seen-kept : goal.offset_bounds-seen-kept
-offset_bounds-seen-kept c = omega (arith, c.entries.invariant.few, c.entries.invariant.within, c.requires.2)
+pub loop-known-preserved : goal.loop-known-preserved
+loop-known-preserved c = let l = c.loop-known in (l.invariant.0, holds-nowhere l.invariant.1 c.if-known-ddi.false)
 
 pub bounds-seen-kept : goal.bounds-seen-kept
-bounds-seen-kept c = omega (arith, c.entries-test.true, c.entries.invariant.few, c.entries.invariant.long, c.requires.1)
-
-pub overflow_add-kept : goal.overflow_add-kept
-overflow_add-kept c = omega (arith, c.entries.invariant.few, c.entries.invariant.within, c.requires.2)
-
-pub entries-smaller : goal.entries-smaller
-entries-smaller c = omega (arith, c.entries-test.true, c.requires.2)
+bounds-seen-kept c = omega (arith, c.entries-test.true, c.entries.invariant.few, c.entries.invariant.long, c.requires.0)
 
 pub entries-preserved : goal.entries-preserved
 entries-preserved c =
     let a = c.args in
     let v = c.entries in
-    let l = c.loop-k in
-    let es = entries_of a.p.now a.starts.now in
-    let end : l.k ≡ v.kept = omega (arith, c.loop-k-test.false, l.invariant.2) in
-    let is = c.tag_at-tag.ensures.0 ∙ ap (tag_of a.p.now es) (c.named_at-named.ensures ∙ ap (named es) (c.read_u16.ensures ∙ sym (c.entries_from-from.ensures.0 v.m))) in
-    rw (l.invariant.0, l.invariant.1) (walk-new (entry_tag a.p.now es a.at) a.number a.size a.seen.now a.faults.now a.count v.seen v.faults v.n v.kept v.m c.entries-test.true v.invariant (c.tag_at-tag.result - 1) (omega (arith, c.entries-test.true, v.invariant.few, v.invariant.long, c.requires.1)) (omega (arith, is, c.if-tag-eq0.false)) (rw (← end) l.invariant.3))
-
-pub shape_of-seen : goal.shape_of-seen
-shape_of-seen c = c.entries.invariant.long
-
-pub shape_of-faults : goal.shape_of-faults
-shape_of-faults c = puts-length c.entries.invariant.puts
+    let l = c.loop-known in
+    let list = a.list.now in
+    let long = length-take-le v.kept v.seen (omega (arith, c.entries-test.true, v.invariant.few, v.invariant.long, c.requires.0)) in
+    let end : l.known-index ≡ v.kept = omega (arith, c.loop-known-test.false, l.auto.known-index-end, long) in
+    let is = c.tag_at-tag.ensures.0 ∙ ap (tag_of list.names.records.pool.now (around list)) c.named_at.ensures in
+    rw l.invariant.0 (walk-new (tag_in list) a.number list.size a.seen.now a.faults.now v.seen v.faults v.kept v.m c.entries-test.true v.invariant (c.tag_at-tag.result - 1) (omega (arith, c.entries-test.true, v.invariant.few, v.invariant.long, c.requires.0)) (omega (arith, is, c.if-tag-eq0.false)) (λ h. l.invariant.1 (rw end (among_kept h))))
 
 pub returns : goal.returns
 returns c =
     let a = c.args in
     let v = c.entries in
-    let end : v.m ≡ a.size = omega (arith, c.entries-test.false, v.invariant.within) in
-    let put = subst (λ (m : ℕ). Puts a.number (many 12 2 m (doubled (entry_tag a.p.now (entries_of a.p.now a.starts.now) a.at)) ∷ []) a.faults.now a.count v.faults v.n) end v.invariant.puts in
-    (put, puts-few put)
+    let end : v.m ≡ a.list.now.size = omega (arith, c.entries-test.false, v.invariant.within) in
+    subst (λ (m : ℕ). Adds a.number (many 12 2 m (doubled (tag_in a.list.now)) ∷ []) m a.faults.now v.faults) end v.invariant.adds

@@ -5,6 +5,4 @@ use Rattle.naming.proofs.Names.{names-few}
 use Rattle.reference_rules.proofs.links.walk_long.Goals as goal
 
 pub walk_links-requires : goal.walk_links-requires
-walk_links-requires c =
-    let a = c.args in
-    (c.requires.0, refl, blank 2048, long 5462 _ (names-few a.p.now a.starts.now a.heads.now a.next.now c.requires.0), blank 5462, c.requires.1, c.requires.2)
+walk_links-requires c = (refl, blank 2048, long 5462 _ (names-few c.args.list.now.names), blank 5462, c.requires)

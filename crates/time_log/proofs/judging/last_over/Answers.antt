@@ -1,26 +1,19 @@
--- `time_log::judging::last_over` meets its contract: the result is that of the ordinals that are still to be looked at.
-use mathlib.Core.Path.{refl, sym, ◌∙◌}
-use native.Mathlib.Omega.{arith}
-use Rattle.time_log.proofs.Runs.{over_none, over-here, over-next}
+-- `time_log::judging::last_over` meets its contract: each number of an ordinal is tested in turn.
+use Rattle.std.proofs.Common.{rules, arith, refl, ap, ◌∙◌, ◌+◌, ◌*◌, get_or}
+use lib.Dec.{leb}
+use borrow.Author.Tests.{tests}
+use Rattle.std.proofs.lemmas.Iterator.{YieldsList-from_range}
+use Rattle.std.proofs.lemmas.Iterator.Search.{any_from_yields_List}
+use Rattle.time_log.specs.Contents.{spaced}
+use Rattle.time_log.specs.Judging.{one_over}
+use Rattle.time_log.proofs.Runs.{over-each}
 use Rattle.time_log.proofs.judging.last_over.Goals as goal
-
-pub loop-left-init : goal.loop-left-init
-loop-left-init c = (refl, refl)
-
-pub returns-then-limit-s : goal.returns-then-limit-s
-returns-then-limit-s c =
-    let a = c.args in
-    let l = c.loop-left in
-    sym (over-here a.limit 5 l.left a.s.now l.p c.loop-left-test.true c.if-limit-s.true) ∙ l.invariant.0
-
-pub loop-left-preserved : goal.loop-left-preserved
-loop-left-preserved c =
-    let a = c.args in
-    let l = c.loop-left in
-    (over-next a.limit 5 l.left a.s.now l.p c.loop-left-test.true c.if-limit-s.false ∙ l.invariant.0, omega arith)
 
 pub returns : goal.returns
 returns c =
     let a = c.args in
-    let l = c.loop-left in
-    sym (over_none a.limit 5 l.left a.s.now l.p c.loop-left-test.false) ∙ l.invariant.0
+    any_from_yields_List (λ k. leb a.limit (get_or a.s.now (a.at + 5 * k) 0)) _ _ c.any.result c.any.ensures.ran
+    (YieldsList-from_range 0 a.n a.n refl (search rules))
+    (λ x b q k. search (rules, tests))
+    ∙ over-each a.limit a.n 0 a.s.now a.at
+    ∙ ap (λ p. one_over a.limit (spaced 5 a.n a.s.now p)) (omega arith)

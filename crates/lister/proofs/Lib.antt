@@ -1,2 +1,0 @@
--- Laws that are not about a single function.
-pub mod Reading

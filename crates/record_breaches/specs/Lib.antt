@@ -1,0 +1,3 @@
+-- What the contracts of `record_breaches` cite.
+pub mod Elements
+pub mod Others
