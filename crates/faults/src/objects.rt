@@ -57,8 +57,8 @@ fn name_all(records: &RecordList, faults: &mut [u16])
     }
 }
 
-// Completes the faults that a check has written into the buffer: all that it found, or as many as there is room for. Docs/ name it with a
-// pool and its starts, of which the list of records is made here.
+// Completes the faults that a check has written into the buffer: all that it found, or as many as there is room for. It takes a pool and
+// its starts, since the documents name it with both, and makes the list of records of them.
 pub fn name_objects(p: &[u8], starts: &[u16], buffer: &mut [u16], found: usize)
     requires { Divided p.now starts.now × Unnamed (length starts.now) buffer.old found }
     ensures { Completed (entries_of p.now starts.now) buffer.old found buffer.new }

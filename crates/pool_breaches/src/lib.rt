@@ -133,8 +133,8 @@ pub fn with_names<T, F: FnOnce(&NamedRecords, &mut [u16]) -> T>(
     lend::<8192, LONG_LIST, T, F>(records, faults, core)
 }
 
-// Counts the faults of a pool whose records have been listed and writes the first ones to the buffer. Docs/ name it with a pool and its
-// starts, of which the list of records is made here.
+// Counts the faults of a pool whose records have been listed and writes the first ones to the buffer. It takes a pool and its starts, since
+// the documents name it with both, and makes the list of records of them.
 pub fn count_faults(p: &[u8], starts: &[u16], faults: &mut [u16]) -> usize
     requires { Divided p.now starts.now }
     ensures { Emits faults.old 0 (breaches_in p.now (entries_of p.now starts.now)) faults.new result }
