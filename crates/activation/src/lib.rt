@@ -7,7 +7,7 @@ ghost use Rattle.pool.specs.Answer.{refusal_answer};
 ghost use Rattle.pool.specs.Walk.{Reaches, Listed};
 ghost use Rattle.checker.specs.Checking.{count_of};
 ghost use Rattle.session.specs.Calls.{step_of};
-ghost use Rattle.activation.specs.Activating.{kept_activated, decided, settled, kept_settled, activate_of, kept_after, records_activated};
+ghost use Rattle.activation.specs.Activating.{kept_activated, decided, settled, kept_settled, activate_of, Sized, kept_after, records_activated};
 ghost use Rattle.activation.specs.Rows.{records_for, ListsFor};
 
 use session::{Fault, Refusal, Session, Step};
@@ -113,10 +113,10 @@ pub fn activate_in(
 }
 
 // Activates the pool that is offered, or else the one that is kept. If a pool is checked and read, the table is filled from the starts
-// that the check has listed. The list is no `working_table::fill`'s: that promises nothing of what a core changes besides the list, and
+// that the check has listed. Refusals 1 and 2 of reading are never given. The list is no `working_table::fill`'s: that promises nothing of what a core changes besides the list, and
 // activating writes the kept area.
 pub fn activate(s: Session, staging: &[u8], kept: &mut [u8], table: &mut [Record]) -> Step
-    ensures { (step_of result ≡ activate_of s staging.now (length kept.old) (length table.old)) × (kept.new ≡ kept_after s staging.now kept.old (length table.old)) × (table.new ≡ records_activated s staging.now (length kept.old) table.old) }
+    ensures { (step_of result ≡ activate_of s staging.now (length kept.old) (length table.old)) × (kept.new ≡ kept_after s staging.now kept.old (length table.old)) × (table.new ≡ records_activated s staging.now (length kept.old) table.old) × Sized (step_of result) }
 {
     let mut starts = [0u16; pool::LONG_LIST];
     let activated = activate_in(s, staging, kept, table.len(), &mut starts);

@@ -1,5 +1,5 @@
 -- The functions of Rattle do as the session's definitions say. Assumes nothing.
-use mathlib.Core.Path.{◌≡◌, refl, ap}
+use mathlib.Core.Path.{◌≡◌, refl, sym, ap, subst}
 use mathlib.Core.List.{List, []}
 use Prim.Native.Nat.{ℕ}
 use denote.Bor.{Bor}
@@ -7,6 +7,7 @@ use denote.MutBor.{MutBor}
 use lib.ListN.{length}
 use Rattle.session.specs.Calls as S
 use Rattle.activation.specs.Activating as Act
+use Rattle.activation.proofs.Settled.{answer-sized}
 use Rattle.session.specs.declared.Session.{Session}
 use Rattle.session.specs.declared.Step.{Step}
 use Rattle.working_table.specs.declared.Record.{Record}
@@ -47,7 +48,7 @@ one (transfer p) s st k =
     record { step = r.step; staging = S.staging_after s p st; area = k; table = []; does = does_transfer ([], ([], tt)) s (ref p) (mut st) k r.step (S.staging_after s p st) tt (r.tells, refl) }
 one (activate t) s st k =
     let r = real s st k (activate t) in
-    record { step = r.step; staging = st; area = Act.kept_after s st k (length t); table = Act.records_activated s st (length k) t; does = does_activate ([], ([], ([], tt))) s (ref st) (mut k) (mut t) r.step (Act.kept_after s st k (length t)) (Act.records_activated s st (length k) t) (r.tells, refl, refl) }
+    record { step = r.step; staging = st; area = Act.kept_after s st k (length t); table = Act.records_activated s st (length k) t; does = does_activate ([], ([], ([], tt))) s (ref st) (mut k) (mut t) r.step (Act.kept_after s st k (length t)) (Act.records_activated s st (length k) t) (r.tells, refl, refl, subst (λ (x : S.Told). Act.Sized x) (sym r.tells) (answer-sized s st k (length t))) }
 one deactivate s st k = let r = real s st k deactivate in record { step = r.step; staging = st; area = k; table = []; does = does_deactivate tt s st k r.step tt r.tells }
 one delete s st k = let r = real s st k delete in record { step = r.step; staging = st; area = k; table = []; does = does_delete tt s st k r.step tt r.tells }
 one lost s st k = let r = real s st k lost in record { step = r.step; staging = st; area = k; table = []; does = does_lost tt s st k r.step tt r.tells }

@@ -2,9 +2,10 @@
 use mathlib.Core.Path.{◌≡◌, refl, sym, ap, ◌∙◌}
 use mathlib.Core.Bool.{Bool, true, false, cond}
 use mathlib.Core.List.{List, [], ◌∷◌, ◌++◌, map, append-nil, append_assoc}
-use Prim.Native.Nat.{ℕ, zero, suc, ◌+◌, ◌-◌, ◌*◌, ◌/◌, ◌<◌}
+use Prim.Native.Nat.{ℕ, zero, suc, ◌+◌, ◌-◌, ◌*◌, ◌/◌, ◌≤◌, ◌<◌}
 use native.Mathlib.Decide.{dec_lt}
-use native.Mathlib.Nat.{add-zero}
+use mathlib.Core.Logic.{⊎_elim}
+use native.Mathlib.Nat.{add-zero, eq-or-lt_of_le}
 use native.Mathlib.Numerals.{add-one}
 use native.Mathlib.Omega.{arith}
 use borrow.Author.Tests.{le-leb, lt-leb}
@@ -149,6 +150,18 @@ alike-one u k e = record { rule = refl; first = refl; size = refl; breach = λ (
 pub alike-many : (u k n : ℕ) (s t : ℕ → Bool) → ((m : ℕ) → m < n → s m ≡ t m) → Alike (many u k n s) (many u k n t)
 alike-many u k n s t h = record { rule = refl; first = refl; size = refl; breach = h }
 
+-- an item has at most one fault
+few-if-so : (t : Bool) (f : Fault) → length (if_so t f) ≤ 1
+few-if-so true f = omega arith
+few-if-so false f = omega arith
+
+pub few-up-to : (n : ℕ) (w : Row) (m : ℕ) → length (up_to n w m) ≤ m
+unfolding up_to
+few-up-to n w zero = omega arith
+few-up-to n w (suc m) =
+    let f : Fault = fault n w.rule (w.first + m) in
+    omega (arith, few-up-to n w m, length-append (up_to n w m) (if_so (w.breach m) f), few-if-so (w.breach m) f)
+
 -- ---- the buffer keeps its length, whether a fault fits or not
 put-length : (b : List ℕ) (k : ℕ) (f : Fault) → length (put_at b k f) ≡ length b
 unfolding put_at
@@ -157,6 +170,45 @@ put-length b k f = go (leb (k * width + width) (length b))
     go : (t : Bool) → length (cond t (sets b (k * width) (numbers (unnamed f))) b) ≡ length b
     go true = length-sets b (k * width) (numbers (unnamed f))
     go false = refl
+
+laid-length : (fs : List Fault) (b : List ℕ) (k : ℕ) → length (puts b k fs) ≡ length b
+unfolding puts
+laid-length [] b k = refl
+laid-length (f ∷ fs) b k = laid-length fs (put_at b k f) (k + 1) ∙ put-length b k f
+
+pub emits-length : {b₀ b : List ℕ} {k₀ k : ℕ} {fs : List Fault} → Emits b₀ k₀ fs b k → length b ≡ length b₀
+emits-length {b₀} {b} {k₀} {k} {fs} p = ap length p.laid ∙ laid-length fs b₀ k₀
+
+pub puts-length : {n : ℕ} {rows : List Row} {b₀ b : List ℕ} {k₀ k : ℕ} → Puts n rows b₀ k₀ b k → length b ≡ length b₀
+puts-length p = emits-length p.emits
+
+-- a row counts at most one fault an item
+pub puts-few : {n u k m : ℕ} {t : ℕ → Bool} {b₀ b : List ℕ} {k₀ k₁ : ℕ} → Puts n (many u k m t ∷ []) b₀ k₀ b k₁ → k₁ ≤ k₀ + m
+puts-few {n} {u} {k} {m} {t} p =
+    omega (arith, p.emits.counted, ap length (row-faults n (many u k m t)), few-up-to n (many u k m t) m)
+
+-- and where it counts that many, each item is a breach
+last-breach : (n : ℕ) (w : Row) (m : ℕ) → suc m ≤ length (up_to n w m ++ if_so (w.breach m) (fault n w.rule (w.first + m))) → w.breach m ≡ true
+last-breach n w m h = go (w.breach m) h
+  where
+    go : (t : Bool) → suc m ≤ length (up_to n w m ++ if_so t (fault n w.rule (w.first + m))) → t ≡ true
+    go true l = refl
+    go false l = absurd (omega (arith, l, few-up-to n w m, length-append (up_to n w m) (if_so false (fault n w.rule (w.first + m)))))
+
+full-up-to : (n : ℕ) (w : Row) (m : ℕ) → m ≤ length (up_to n w m) → (j : ℕ) → j < m → w.breach j ≡ true
+unfolding up_to
+full-up-to n w zero h j l = absurd (omega (arith, l))
+full-up-to n w (suc m) h j l =
+    let f : Fault = fault n w.rule (w.first + m) in
+    let before : m ≤ length (up_to n w m) = omega (arith, h, length-append (up_to n w m) (if_so (w.breach m) f), few-if-so (w.breach m) f) in
+    ⊎_elim
+    (λ (s : j ≡ m). rw s (last-breach n w m h))
+    (λ (s : j < m). full-up-to n w m before j s)
+    (eq-or-lt_of_le (omega (arith, l)))
+
+pub puts-full : {n u k m : ℕ} {t : ℕ → Bool} {b₀ b : List ℕ} {k₀ k₁ : ℕ} → Puts n (many u k m t ∷ []) b₀ k₀ b k₁ → k₁ ≡ k₀ + m → (j : ℕ) → j < m → t j ≡ true
+puts-full {n} {u} {k} {m} {t} p e =
+    full-up-to n (many u k m t) m (omega (arith, e, p.emits.counted, ap length (row-faults n (many u k m t))))
 
 -- ---- all the faults at once: the first, as many as fit
 

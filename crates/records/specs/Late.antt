@@ -1,5 +1,5 @@
--- Testing late, which the theorem of proofs/Late.antt speaks of: a record's fields are passed without testing each, and one test is made
--- at the end. No contract rests on these. Definitions only.
+-- Testing late: a record's fields are passed without testing each, and one test is made at the end. `end::marked` promises the extents by
+-- these, too, by the law of proofs/Late.antt. Definitions only.
 use Rattle.std.specs.Prelude.{ℕ, ◌+◌, ◌*◌, cond, List, [], ◌∷◌, leb, ltb, length, get_or, Result, Ok, Err}
 use Rattle.wire.specs.Bytes.{number_in}
 use Rattle.records.specs.Layout.{Field, fixed, text, entries}

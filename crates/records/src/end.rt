@@ -3,6 +3,7 @@
 ghost use Rattle.std.specs.Prelude.{◌≡◌, [], ◌∷◌, ◌+◌, ◌≤◌, cond, leb, ltb, length, get_or, IfOk};
 ghost use Rattle.records.specs.Layout.{fixed, text, layout};
 ghost use Rattle.records.specs.Extents.{field_end, fields_end};
+ghost use Rattle.records.specs.Late.{late_fields, closed};
 ghost use Rattle.records.specs.declared.Flaw.TheVariants.{Cut, LengthOver};
 ghost use Rattle.records.specs.declared.Kind.TheVariants.{Dvc, Det, Dpd, Dpt, Dvp};
 
@@ -125,10 +126,11 @@ fn dvp_end(p: &[u8], at: usize) -> Result<usize, Flaw>
     text_within(p, at, 2 + 4 + 4 + 1, 128, 0)
 }
 
-// Where the fields after the mark of a kind end.
+// Where the fields after the mark of a kind end: by testing each field, and as well by passing the fields and testing the record's end.
 pub(crate) fn marked(p: &[u8], kind: Kind, at: usize) -> Result<usize, Flaw>
     requires { at ≤ length p.now }
-    ensures { result ≡ fields_end (layout kind) p.now (Ok at) }
+    ensures exact { result ≡ fields_end (layout kind) p.now (Ok at) }
+    ensures late { result ≡ closed p.now (late_fields (layout kind) p.now (Ok at)) }
 {
     match kind {
         Kind::Dvc => dvc_end(p, at),

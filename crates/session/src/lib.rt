@@ -27,7 +27,7 @@ pub struct Fault {
     pub parent: u16,
 }
 
-// Why a call is refused, in the order of the numbers: 3 to 7 from reading the pool, then 20 to 27.
+// Why a call is refused, in the order of the numbers: from reading the pool, of which activating gives 3 to 7 alone, then 20 to 27.
 #[derive(Clone, Copy)]
 pub enum Refusal {
     Unread(pool::Refusal),

@@ -12,9 +12,3 @@ put_if-requires c = omega (arith, c.requires.1, c.loop-j.invariant.few, c.loop-j
 
 pub loop-j-preserved : goal.loop-j-preserved
 loop-j-preserved c = adds-turn c.loop-j.j c.loop-j.invariant (rw (← c.is_bad_label.ensures) c.put_if.ensures)
-
-pub returns : goal.returns
-returns c =
-    let l = c.loop-j in
-    let end : l.j ≡ 14 = omega (arith, c.loop-j-test.false, l.auto.j-end) in
-    rw end at l.invariant

@@ -40,4 +40,4 @@ returns-in_err-kind c =
 pub returns : goal.returns
 returns c =
     let a = c.args in
-    told a.at (c.marked.ensures ∙ by-mark a.p.now a.at (omega arith) c.mark_of.result (Some c.in_ok-kind.kind) c.mark_of.ensures c.in_ok-kind.ensures.ok_part)
+    told a.at (c.marked.ensures.exact ∙ by-mark a.p.now a.at (omega arith) c.mark_of.result (Some c.in_ok-kind.kind) c.mark_of.ensures c.in_ok-kind.ensures.ok_part)
