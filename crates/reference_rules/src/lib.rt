@@ -78,8 +78,7 @@ fn put_missing(list: &EntryList, number: u16, faults: &mut FaultList) -> Looked
     ensures clean { result.wrong ≡ false → (m : ℕ) → m < list.now.size → wrong_in list.now m ≡ false }
     ensures apart { result.tagged < 2 → (m : ℕ) → m < list.now.size → doubled (tag_in list.now) m ≡ false }
 {
-    // Copies, which the compiler keeps in registers: behind the references all of it would be read again for each entry.
-    let list = *list;
+    // A list of its own, which the compiler keeps in registers: behind the reference the count would be read again for each entry.
     let mut own = FaultList {
         buffer: &mut *faults.buffer,
         count: faults.count,
@@ -99,7 +98,8 @@ fn put_missing(list: &EntryList, number: u16, faults: &mut FaultList) -> Looked
     Looked { wrong, tagged }
 }
 
-// Rule 7 of the entries, unless it is known that none breaks it.
+// Rule 7 of the entries, unless it is known that none breaks it. It is rarely called, and keeps what it needs in a stack frame of its own.
+#[inline(never)]
 fn put_wrong(wrong: bool, list: &EntryList, number: u16, faults: &mut FaultList)
     requires { (wrong ≡ false → (m : ℕ) → m < list.now.size → wrong_in list.now m ≡ false) × (faults.old.count < 2 ^ 41) }
     ensures { Adds number (many 7 2 list.now.size (wrong_in list.now) ∷ []) list.now.size faults.old faults.new }
@@ -107,8 +107,6 @@ fn put_wrong(wrong: bool, list: &EntryList, number: u16, faults: &mut FaultList)
     if !wrong {
         return;
     }
-    // Copies, as above.
-    let list = *list;
     let mut own = FaultList {
         buffer: &mut *faults.buffer,
         count: faults.count,
