@@ -30,16 +30,14 @@ impl FaultList<'_> {
         requires { self.old.count < 2 ^ 48 }
         ensures { (self.new.buffer.ghost_name ≡ self.old.buffer.ghost_name) × Emits self.old.buffer.now self.old.count (if_so true (fault number rule item)) self.new.buffer.now self.new.count × (self.new.count ≤ self.old.count + 1) }
     {
-        // The five numbers are stored one by one: an array of them, made only to be copied, reads no plainer. They are stored through one
-        // slice: through the reference the buffer's place would be read again for each.
+        // The five numbers are stored one by one: an array of them, made only to be copied, reads no plainer.
         let i = self.count * WIDTH;
         if i + WIDTH <= self.buffer.len() {
-            let buffer = &mut *self.buffer;
-            buffer[i] = number;
-            buffer[i + 1] = rule;
-            buffer[i + 2] = item;
-            buffer[i + 3] = 0;
-            buffer[i + 4] = 0;
+            self.buffer[i] = number;
+            self.buffer[i + 1] = rule;
+            self.buffer[i + 2] = item;
+            self.buffer[i + 3] = 0;
+            self.buffer[i + 4] = 0;
         }
         self.count += 1;
     }
