@@ -113,8 +113,8 @@ pub fn activate_in(
 }
 
 // Activates the pool that is offered, or else the one that is kept. If a pool is checked and read, the table is filled from the starts
-// that the check has listed. Refusals 1 and 2 of reading are never given. The list is no `working_table::fill`'s: that promises nothing of what a core changes besides the list, and
-// activating writes the kept area.
+// that the check has listed. Refusals 1 and 2 of reading are never given. The list is no `working_table::fill`'s: that promises nothing of
+// what a core changes besides the list, and activating writes the kept area.
 pub fn activate(s: Session, staging: &[u8], kept: &mut [u8], table: &mut [Record]) -> Step
     ensures { (step_of result ≡ activate_of s staging.now (length kept.old) (length table.old)) × (kept.new ≡ kept_after s staging.now kept.old (length table.old)) × (table.new ≡ records_activated s staging.now (length kept.old) table.old) × Sized (step_of result) }
 {

@@ -74,27 +74,19 @@ struct Looked {
 // Rule 6 of the entries.
 fn put_missing(list: &EntryList, number: u16, faults: &mut FaultList) -> Looked
     requires { faults.old.count < 2 ^ 41 }
-    ensures adds { Adds number (many 6 2 list.now.size (λ (m : ℕ). eqb (named_in list.now m) 0) ∷ []) list.now.size faults.old faults.new }
-    ensures clean { result.wrong ≡ false → (m : ℕ) → m < list.now.size → wrong_in list.now m ≡ false }
-    ensures apart { result.tagged < 2 → (m : ℕ) → m < list.now.size → doubled (tag_in list.now) m ≡ false }
+    ensures { Adds number (many 6 2 list.now.size (λ (m : ℕ). eqb (named_in list.now m) 0) ∷ []) list.now.size faults.old faults.new × (result.wrong ≡ false → (m : ℕ) → m < list.now.size → wrong_in list.now m ≡ false) × (result.tagged < 2 → (m : ℕ) → m < list.now.size → doubled (tag_in list.now) m ≡ false) }
 {
-    // A list of its own, which the compiler keeps in registers: behind the reference the count would be read again for each entry.
-    let mut own = FaultList {
-        buffer: &mut *faults.buffer,
-        count: faults.count,
-    };
     let mut wrong = false;
     let mut tagged: usize = 0;
     for m in 0..list.size {
         let named = list.named_at(m);
-        own.put_if(named == 0, number, 6, (2 + m) as u16);
+        faults.put_if(named == 0, number, 6, (2 + m) as u16);
         if list.names.records.is_data_at(named) {
             tagged += 1;
         } else {
             wrong = wrong | (named != 0);
         }
     }
-    faults.count = own.count;
     Looked { wrong, tagged }
 }
 
@@ -106,15 +98,10 @@ fn put_wrong(wrong: bool, list: &EntryList, number: u16, faults: &mut FaultList)
     if !wrong {
         return;
     }
-    let mut own = FaultList {
-        buffer: &mut *faults.buffer,
-        count: faults.count,
-    };
     for m in 0..list.size {
         let hit = is_wrong_entry(&list.names.records, list.named_at(m));
-        own.put_if(hit, number, 7, (2 + m) as u16);
+        faults.put_if(hit, number, 7, (2 + m) as u16);
     }
-    faults.count = own.count;
 }
 
 // Rules 8 and 9 of a device element.

@@ -49,8 +49,10 @@ loop-m-preserved c =
     ] in
     (put, on.0, on.1)
 
-pub returns-clause-clean : goal.returns-clause-clean
-returns-clause-clean c = let l = c.loop-m in λ e m b. l.invariant.2.clean e m (omega (arith, b, c.loop-m-test.false))
-
-pub returns-clause-apart : goal.returns-clause-apart
-returns-clause-apart c = let l = c.loop-m in λ e m b. l.invariant.2.few e m (omega (arith, b, c.loop-m-test.false))
+pub returns : goal.returns
+returns c =
+    let a = c.args in
+    let list = a.list.now in
+    let l = c.loop-m in
+    let end : l.m ≡ list.size = omega (arith, c.loop-m-test.false, l.auto.m-end) in
+    (rw end at l.invariant.0, λ e m b. l.invariant.2.clean e m (omega arith), λ e m b. l.invariant.2.few e m (omega arith))

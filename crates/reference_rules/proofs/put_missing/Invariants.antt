@@ -10,4 +10,4 @@ use Rattle.reference_rules.proofs.put_missing.Given as goal
 
 abbrev pub invariant-loop-m : goal.invariant-loop-m
 invariant-loop-m l =
-    Adds l.number (many 6 2 l.m (λ (i : ℕ). eqb (named_in l.list i) 0) ∷ []) l.m l.initial.own l.own × (l.tagged ≤ l.m) × Looking (named_in l.list) (data_in l.list) (tag_in l.list) l.m l.wrong l.tagged
+    Adds l.number (many 6 2 l.m (λ (i : ℕ). eqb (named_in l.list i) 0) ∷ []) l.m l.initial.faults l.faults × (l.tagged ≤ l.m) × Looking (named_in l.list) (data_in l.list) (tag_in l.list) l.m l.wrong l.tagged

@@ -33,3 +33,10 @@ loop-m-preserved c =
     let l = c.loop-m in
     let hit : c.is_wrong_entry-hit.result ≡ wrong_in list l.m = c.is_wrong_entry-hit.ensures ∙ ap (λ (r : ℕ). is_wrong_kind (is_data_kind (kind_of (around list) r)) r) c.named_at.ensures in
     adds-turn l.m l.invariant (rw hit at c.put_if.ensures)
+
+pub returns : goal.returns
+returns c =
+    let a = c.args in
+    let l = c.loop-m in
+    let end : l.m ≡ a.list.now.size = omega (arith, c.loop-m-test.false, l.auto.m-end) in
+    rw end at l.invariant

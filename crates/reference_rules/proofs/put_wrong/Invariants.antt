@@ -6,4 +6,4 @@ use Rattle.reference_rules.specs.Entries.{wrong_in}
 use Rattle.reference_rules.proofs.put_wrong.Given as goal
 
 abbrev pub invariant-loop-m : goal.invariant-loop-m
-invariant-loop-m l = Adds l.number (many 7 2 l.m (wrong_in l.list) ∷ []) l.m l.initial.own l.own
+invariant-loop-m l = Adds l.number (many 7 2 l.m (wrong_in l.list) ∷ []) l.m l.initial.faults l.faults

@@ -1,4 +1,4 @@
--- `record_breaches::element::ElementRecord::put_faults` meets its contract.
+-- `record_breaches::element::ElementRecord::put_rules` meets its contract.
 use mathlib.Core.Path.{refl, sym}
 use Prim.Native.Nat.{◌+◌}
 use native.Mathlib.Omega.{arith}
@@ -8,7 +8,7 @@ use Rattle.record_breaches.specs.Elements.{pool_of, around}
 use Rattle.record_breaches.proofs.Rows.{all-rows}
 use Rattle.record_breaches.proofs.ElementRows.{element-rows}
 use Rattle.record_breaches.proofs.Elements.{fields-read, entries-few}
-use Rattle.record_breaches.proofs.element.ElementRecord.put_faults.Goals as goal
+use Rattle.record_breaches.proofs.element.ElementRecord.put_rules.Goals as goal
 
 pub overflow_add-number : goal.overflow_add-number
 overflow_add-number c = let e = c.args.self.now in omega (arith, names-few e.names.now, e.listed)
