@@ -65,7 +65,7 @@ fn put_labels(p: &[u8], at: usize, number: u16, faults: &mut FaultList)
     requires { (at < 2 ^ 20) × (faults.old.count < 2 ^ 41) }
     ensures { Adds number (many 5 1 14 (bad_label p.now at) ∷ []) 14 faults.old faults.new }
 {
-    // A list of its own, which the compiler keeps in registers: behind the reference the count would be read again for each label.
+    // A list of its own, which the compiler keeps in registers: behind the reference the count would be read again for each fault.
     let mut own = FaultList {
         buffer: &mut *faults.buffer,
         count: faults.count,

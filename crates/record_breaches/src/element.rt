@@ -52,7 +52,7 @@ impl<'a> ElementRecord<'a> {
         }
     }
 
-    // The rules in their order; bad, twice, again and endless say whether it breaks rules 1, 2, 8 and 9.
+    // Every fault, in the order of the rules; bad, twice, again and endless say whether the record breaks rules 1, 2, 8 and 9.
     fn put_rules(&self, bad: bool, twice: bool, again: bool, endless: bool, faults: &mut FaultList)
         requires { (bad ≡ bad_own 2 (id_at (around self.now) self.now.i)) × (twice ≡ repeats (id_at (around self.now)) (id_at (around self.now) self.now.i) self.now.i (length (around self.now))) × (again ≡ repeats_number self.now) × (endless ≡ never_ends self.now) × (faults.old.count < 2 ^ 37) }
         ensures { Adds (self.now.i + 1) (rows_of self.now) 98313 faults.old faults.new }
@@ -74,9 +74,9 @@ impl<'a> ElementRecord<'a> {
         );
     }
 
-    // Every fault, into a list of its own, which the compiler keeps in registers: behind the reference the count would be read again for
-    // each fault. It is kept from being inlined: the lists of the walk over a long list of entries take stack only where an element has a
-    // fault.
+    // The same, with a list of its own, which the compiler keeps in registers: behind the reference the count would be read again for each
+    // fault. This function is kept from being inlined: the lists of the walk over a long list of entries take stack only where an element
+    // has a fault.
     #[inline(never)]
     pub(crate) fn put_faults(
         &self,
